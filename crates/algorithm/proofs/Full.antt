@@ -1,0 +1,88 @@
+-- The algorithm whole, as the theory sees it: a table as functions of a server's number and of a position. Assumes nothing.
+use Prim.Native.Nat.{ℕ, _+_, _-_, _<_}
+use mathlib.Core.Bool.{not}
+use mathlib.Core.List.{List, [], _∷_, _++_}
+use mathlib.Core.Logic.{_⊎_}
+use mathlib.Core.Path.{_≡_}
+use lib.Dec.{T}
+use lib.ListN.{length, take}
+use Rattle.members.specs.Members.{All, Majority, Most}
+use Rattle.algorithm.specs.Table.{Log, entryAt, termAt}
+use Rattle.algorithm.specs.Comparisons.{last, ahead}
+use Rattle.algorithm.specs.Logless as logless
+use Rattle.algorithm.specs.Logless.{State, put}
+use Rattle.algorithm.proofs.Logs.{Holds, Prefix}
+
+pub record View : Type 0 where
+  pub core : State
+  pub log : ℕ → Log
+  -- the term committed at a position, or 0
+  pub mark : ℕ → ℕ
+
+pub record Marked (mark : ℕ → ℕ) (p t : ℕ) : Type 0 where
+  pub is : mark p ≡ t
+  pub positive : 0 < t
+
+pub data Action : Type 0 where
+  config : logless.Action → Action
+  write : ℕ → Action
+  fetch roll-back commit : ℕ → ℕ → Action
+
+-- P1: some mark carries i's term, and a majority of i's set is in that term and holds every entry so marked
+pub record Settled (v : View) (i : ℕ) : Type 0 where
+  pub position : ℕ
+  pub marked : Marked (v .mark) position (v .core i .term)
+  pub most : Most (v .core i .config .set)
+      (λ n. (v .core n .term ≡ v .core i .term) × ((p : ℕ) → Marked (v .mark) p (v .core i .term) → Holds (v .log n) p (v .core i .term)))
+
+-- what logs and marks ask of an action on configurations
+abbrev pub LogsAllow : View → logless.Action → Type 0
+LogsAllow v (logless.elect i q) = All q (λ n. T (not (ahead (v .log n) (v .log i))))
+LogsAllow v (logless.reconfigure i m) = Settled v i
+LogsAllow v (logless.send i j) = Unit {0}
+LogsAllow v (logless.spread i j) = Unit {0}
+
+pub record CanFetch (v : View) (i j : ℕ) : Type 0 where
+  pub secondary : v .core i .role ≡ 0
+  pub longer : length (v .log i) < length (v .log j)
+  pub same : (length (v .log i) ≡ 0) ⊎ (last (v .log i) ≡ termAt (v .log j) (length (v .log i)))
+
+pub record CanRollBack (v : View) (i j : ℕ) : Type 0 where
+  pub secondary : v .core i .role ≡ 0
+  pub less : last (v .log i) < last (v .log j)
+  pub no-prefix : ¬ Prefix (v .log i) (v .log j)
+
+pub record CanCommit (v : View) (i q : ℕ) : Type 0 where
+  pub primary : v .core i .role ≡ 1
+  pub majority : Majority q (v .core i .config .set)
+  pub some : 0 < length (v .log i)
+  pub own : last (v .log i) ≡ v .core i .term
+  pub held : All q (λ n. (v .core n .term ≡ v .core i .term) × Holds (v .log n) (length (v .log i)) (v .core i .term))
+
+abbrev pub Allowed : View → Action → Type 0
+Allowed v (config a) = logless.Allowed (v .core) a × LogsAllow v a
+Allowed v (write i) = v .core i .role ≡ 1
+Allowed v (fetch i j) = CanFetch v i j
+Allowed v (roll-back i j) = CanRollBack v i j
+Allowed v (commit i q) = CanCommit v i q
+
+abbrev pub after : View → Action → View
+after v (config a) = record { core = logless.after (v .core) a; log = v .log; mark = v .mark }
+after v (write i) = record { core = v .core; log = put (v .log) i (v .log i ++ (record { term = v .core i .term } ∷ [])); mark = v .mark }
+after v (fetch i j) =
+    record { core = v .core; log = put (v .log) i (v .log i ++ (entryAt (v .log j) (length (v .log i) + 1) ∷ [])); mark = v .mark }
+after v (roll-back i j) = record { core = v .core; log = put (v .log) i (take (length (v .log i) - 1) (v .log i)); mark = v .mark }
+after v (commit i q) = record { core = v .core; log = v .log; mark = put (v .mark) (length (v .log i)) (v .core i .term) }
+
+-- the terms that an action wins
+abbrev pub won : View → Action → List ℕ
+won v (config a) = logless.won (v .core) a
+won v (write i) = []
+won v (fetch i j) = []
+won v (roll-back i j) = []
+won v (commit i q) = []
+
+-- One step from v to v′, with the terms ts won: an allowed action is taken, or nothing changes.
+pub data Move (v : View) : View → List ℕ → Type 0 where
+  rests : Move v v []
+  takes : (a : Action) → Allowed v a → Move v (after v a) (won v a)

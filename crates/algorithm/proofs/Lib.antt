@@ -1,0 +1,21 @@
+-- What is proved of the algorithm.
+pub mod Worked
+pub mod Choice
+pub mod Lists
+pub mod Refused
+pub mod Orders
+pub mod Logs
+pub mod Invariant
+pub mod Steps
+pub mod Elections
+pub mod Full
+pub mod Seen
+pub mod Sound
+pub mod Kept
+pub mod Taken
+pub mod Runs
+pub mod Safe
+pub mod Commit
+pub mod Demands
+pub mod LogInvariant
+pub mod Safety

@@ -1,0 +1,97 @@
+-- What holds of runs because it holds of steps; runs joined; marks stay. Assumes nothing.
+use Prim.Native.Nat.{ℕ, zero, suc, _+_, _*_, _/_, _<_}
+use mathlib.Core.Bool.{Bool, not, _||_}
+use mathlib.Core.List.{List, [], _∷_, _++_}
+use mathlib.Core.Logic.{_≢_, ⊎-elim}
+use mathlib.Core.Path.{_≡_, refl, sym, ap, _∙_, subst}
+use native.Mathlib.Nat.{eq-zero-or-pos}
+use native.Mathlib.Omega.{arith}
+use lib.Dec.{T, eqb}
+use lib.ListN.{length, take, drop, length-append, length-drop}
+use lib.Seq.{take-append-le, drop-append-le}
+use mir.Facts.{or-yes, or-no, T-not-not, eqb-yes, eqb-no}
+use Rattle.algorithm.specs.Table.{Table, broken, count, server, mark}
+use Rattle.algorithm.specs.Refusals.{Action, unknown, elect, reconfigure, send, spread, write, fetch, rollBack, commit, actionOf, after}
+use Rattle.algorithm.specs.Run.{step, pieces, pieceCount, Ran, play, run}
+use Rattle.algorithm.proofs.Choice.{put-elim}
+use Rattle.algorithm.proofs.Lists.{nth-replace}
+use Rattle.algorithm.proofs.Refused.{Taken, outcome}
+use Rattle.algorithm.proofs.Sound.{table-sound, here-sound, marks-full}
+use Rattle.algorithm.proofs.Kept.{step-sound}
+
+-- ---- steps and runs
+
+-- what every step keeps, a run keeps
+pub play-keeps : (P : Table → Type 0) → ((t : Table) (a : List ℕ) → P t → P (step t a .table)) → (t : Table) (p : List (List ℕ)) → P t → P (play t p .table)
+unfolding play
+play-keeps P keeps t [] h = h
+play-keeps P keeps t (a ∷ p) h = play-keeps P keeps (step t a .table) p (keeps t a h)
+
+pub run-sound : (t : Table) (p : List ℕ) → T (not (broken t)) → T (not (broken (run t p .table)))
+run-sound t p = play-keeps (λ t. T (not (broken t))) step-sound t (pieces (pieceCount p) p)
+
+-- ---- one plan after another
+
+-- the second run goes on where the first ended
+abbrev pub joined : Ran → Ran → Ran
+joined r s = record { replies = r .replies ++ s .replies; table = s .table }
+
+play-append : (t : Table) (p q : List (List ℕ)) → play t (p ++ q) ≡ joined (play t p) (play (play t p .table) q)
+unfolding play
+play-append t [] q = refl
+play-append t (a ∷ p) q =
+    ap (λ (r : Ran). record { replies = step t a .number ∷ r .replies; table = r .table }) (play-append (step t a .table) p q)
+
+pieces-append : (k j n : ℕ) (p q : List ℕ) → length p ≡ 8 * k → n ≡ k + j → pieces n (p ++ q) ≡ pieces k p ++ pieces j q
+unfolding pieces
+pieces-append zero j n [] q e z = let same : n ≡ j = omega arith in ap (λ (m : ℕ). pieces m q) same
+pieces-append zero j n (x ∷ p) q e z = absurd (omega arith)
+pieces-append (suc k) j zero p q e z = absurd (omega arith)
+pieces-append (suc k) j (suc n) p q e z =
+    rw (take-append-le 8 p q (omega arith), drop-append-le 8 p q (omega arith))
+    (ap (λ l. take 8 p ∷ l) (pieces-append k j n (drop 8 p) q (omega (arith, length-drop 8 p)) (omega arith)))
+
+-- the run of a plan of whole actions and then another is the run of the second from the table of the first
+pub run-append : (t : Table) (k : ℕ) (p q : List ℕ) → length p ≡ 8 * k → run t (p ++ q) ≡ joined (run t p) (run (run t p .table) q)
+run-append t k p q e =
+    let c : pieceCount p ≡ k = omega arith in
+    let d : pieceCount (p ++ q) ≡ k + pieceCount q = omega (arith, length-append p q) in
+    rw (pieces-append k (pieceCount q) (pieceCount (p ++ q)) p q e d, c) (play-append t (pieces k p) (pieces (pieceCount q) q))
+
+-- ---- marks
+
+-- a commit at a marked position has that very term
+commit-marks : (t : Table) (i q : ℕ) → Taken t (commit i q) → (p : ℕ) → 0 < mark t p → mark (after t (commit i q)) p ≡ mark t p
+unfolding after
+commit-marks t i q k p o =
+    let h = table-sound t (k .sound) in
+    let (_, (_, (entry, (_, (other, _))))) = k .own in
+    let at : ℕ = length (server t i .log) in
+    let some : at ≢ 0 = eqb-no (or-no (eqb at 0) _ entry .0) in
+    let free : Bool = eqb (mark t at) 0 in
+    let same : Bool = eqb (mark t at) (server t i .term) in
+    nth-replace (t .marks) at (server t i .term) 0 (omega arith) (omega (arith, marks-full h, here-sound h i (k .fit .0) .short)) p
+    ∙ put-elim (λ n x. 0 < mark t n → x ≡ mark t n)
+    (λ m. ⊎-elim (λ z. let e : mark t at ≡ 0 = eqb-yes z in absurd (omega arith)) (λ e. sym (eqb-yes e)) (or-yes free same (T-not-not (free || same) other)))
+    (λ n _. refl) p o
+
+marks-after : (t : Table) (a : Action) → Taken t a → (p : ℕ) → 0 < mark t p → mark (after t a) p ≡ mark t p
+unfolding after
+marks-after t unknown k p o = refl
+marks-after t (elect i q) k p o = refl
+marks-after t (reconfigure i m) k p o = refl
+marks-after t (send i j) k p o = refl
+marks-after t (spread i j) k p o = refl
+marks-after t (write i) k p o = refl
+marks-after t (fetch i j) k p o = refl
+marks-after t (rollBack i j) k p o = refl
+marks-after t (commit i q) k p o = commit-marks t i q k p o
+
+mark-step : (t : Table) (a : List ℕ) (p : ℕ) → 0 < mark t p → mark (step t a .table) p ≡ mark t p
+mark-step t a p o =
+    ⊎-elim (λ d. rw (d .table) (marks-after t (actionOf a) (d .taken) p o)) (λ r. rw (r .table)) (outcome t a)
+
+-- a mark, once made, stays, in any table
+pub marks-stay : (t : Table) (plan : List ℕ) (p : ℕ) → 0 < mark t p → mark (run t plan .table) p ≡ mark t p
+marks-stay t plan p o =
+    play-keeps (λ s. mark s p ≡ mark t p) (λ s a e. mark-step s a p (omega arith) ∙ e) t (pieces (pieceCount plan) plan) refl

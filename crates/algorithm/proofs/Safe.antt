@@ -1,0 +1,82 @@
+-- The invariants together: a fresh table has them, and every step keeps them. Assumes nothing.
+use Prim.Native.Nat.{ℕ, zero, suc}
+use mathlib.Core.List.{List, []}
+use mathlib.Core.Logic.{inl, inr, ⊎-elim}
+use mathlib.Core.Path.{_≡_, refl, ap}
+use native.Mathlib.Omega.{arith}
+use lib.ListN.{length, getD, replicate}
+use Rattle.algorithm.specs.Table.{Log, Table, nth, server, mark, fresh, freshServer, absent, positions}
+use Rattle.algorithm.specs.Actions.{withLog}
+use Rattle.algorithm.specs.Logless as logless
+use Rattle.algorithm.specs.Logless.{core, Fresh}
+use Rattle.algorithm.proofs.Logs.{Holds}
+use Rattle.algorithm.proofs.Invariant.{Inv}
+use Rattle.algorithm.proofs.Elections.{inv-fresh, inv-move}
+use Rattle.algorithm.proofs.LogInvariant.{LogInv}
+use Rattle.algorithm.proofs.Full.{View, Marked, config, write, fetch, roll-back, commit, Move, rests, takes}
+use Rattle.algorithm.proofs.Safety.{logs-after}
+use Rattle.algorithm.proofs.Seen.{view, server-fresh}
+
+pub record Safe (v : View) : Type 0 where
+  pub configs : Inv (v .core)
+  pub logs : LogInv (v .core) (v .log) (Marked (v .mark))
+
+-- ---- a fresh table
+
+module _ (n M : ℕ) where
+  pub core-fresh : Fresh M (core (fresh n M))
+  core-fresh k = ⊎-elim (λ e. inl (ap (withLog []) e)) (λ e. inr (ap (withLog []) e)) (server-fresh n M k)
+
+  no-entry : (k : ℕ) {p u : ℕ} → Holds (server (fresh n M) k .log) p u → ⊥
+  no-entry k h =
+      let e : length (server (fresh n M) k .log) ≡ 0 = ⊎-elim (λ e. ap (λ s. length (s .log)) e) (λ e. ap (λ s. length (s .log)) e) (server-fresh n M k) in
+      omega (arith, h .some, h .within)
+
+  no-mark : {p u : ℕ} → Marked (mark (fresh n M)) p u → ⊥
+  unfolding nth
+  no-mark {p} m = omega (arith, m .is, m .positive, unmarked p)
+    where
+      repeated : (d k p : ℕ) → getD (replicate k d) p d ≡ d
+      repeated d zero p = refl
+      repeated d (suc k) zero = refl
+      repeated d (suc k) (suc p) = repeated d k p
+
+      unmarked : (p : ℕ) → mark (fresh n M) p ≡ 0
+      unmarked zero = refl
+      unmarked (suc p) = repeated 0 positions p
+
+  pub safe-fresh : Safe (view (fresh n M))
+  safe-fresh = record {
+    configs = inv-fresh core-fresh;
+    logs = record {
+      agree = λ {m} h _ _. absurd (no-entry m h);
+      sorted = λ {n} h _ _. absurd (no-entry n h);
+      known = λ {n} h. absurd (no-entry n h);
+      marked = λ m. absurd (no-mark m);
+      complete = λ {n} h _ _. absurd (no-entry n h);
+      leads = λ {i} l. record {
+        entries = λ {n} h. absurd (no-entry n h);
+        bounded = λ h. absurd (no-entry i h);
+        complete = λ m _. absurd (no-mark m);
+      };
+      committed = λ _ _ m. absurd (no-mark m);
+    };
+  }
+
+-- ---- a step
+
+-- with logs and marks left out, a step is one of the algorithm without them
+pub projects : {v v′ : View} {ts : List ℕ} → Move v v′ ts → logless.Move (v .core) (v′ .core) ts
+projects rests = logless.rests
+projects (takes (config a) (can, _)) = logless.takes a can
+projects (takes (write i) can) = logless.rests
+projects (takes (fetch i j) can) = logless.rests
+projects (takes (roll-back i j) can) = logless.rests
+projects (takes (commit i q) can) = logless.rests
+
+pub safe-move : {v v′ : View} {ts : List ℕ} → Move v v′ ts → Safe v → Safe v′
+safe-move rests safe = safe
+safe-move {v} (takes a can) safe = record {
+  configs = inv-move (projects (takes a can)) (safe .configs);
+  logs = logs-after v (safe .configs) (safe .logs) a can;
+}

@@ -1,0 +1,59 @@
+-- The worked cases of document 01 that are marked to be proved, in its order, each with what it must give. Assumes nothing.
+use Prim.Native.Nat.{ℕ, _/_, _%_}
+use mathlib.Core.List.{List, [], _∷_, _++_, map}
+use lib.ListN.{length}
+use Rattle.members.specs.Members.{one}
+use Rattle.algorithm.specs.Table.{Config, Entry, Log, Server, Table, server, freshServer, fresh, positions}
+use Rattle.algorithm.specs.Comparisons.{newer, ahead}
+use Rattle.algorithm.specs.Actions.{withLog, withServer, winner}
+use Rattle.algorithm.specs.Run.{run}
+
+infix 20 _gives_
+-- what a case gives, and what it must give: replies, truth values as 0 and 1, lengths
+pub record Case : Type 0 where
+  pub gives : List ℕ
+  pub expected : List ℕ
+
+abbrev pub _gives_ : List ℕ → List ℕ → Case
+g gives e = record { gives = g; expected = e }
+
+-- an action's bytes
+abbrev pub bytes : ℕ → ℕ → ℕ → ℕ → List ℕ
+bytes kind i j m = kind ∷ i ∷ j ∷ 0 ∷ m % 256 ∷ m / 256 ∷ 0 ∷ 0 ∷ []
+
+abbrev pub replies : Table → List ℕ → List ℕ
+replies t p = run t p .replies
+
+abbrev pub log : List ℕ → Log
+log = map (λ T. record { term = T })
+
+-- two secondaries with these logs
+abbrev pub two : List ℕ → List ℕ → Table
+two l m =
+    withServer (withServer (fresh 2 3) 1 (withLog (log l) (freshServer 3))) 2 (withLog (log m) (freshServer 3))
+
+-- one server, primary of term 1
+abbrev pub alone : Table
+alone = withServer (fresh 1 1) 1 (winner 1 (freshServer 1))
+
+-- roll back 1 against 2, twice
+abbrev pub backTwice : List ℕ
+backTwice = bytes 7 1 2 0 ++ bytes 7 1 2 0
+
+unfoldable pub cases : List Case
+cases =
+    (replies (fresh 1 1) (bytes 1 1 0 1) gives 0 ∷ [])
+    ∷ (replies (fresh 4 15) (bytes 1 1 0 3) gives 7 ∷ [])
+    ∷ (replies (fresh 4 15) (bytes 1 1 0 7) gives 0 ∷ [])
+    ∷ (one (newer (record { set = 1; version = 1; term = 2 }) (record { set = 1; version = 9; term = 1 })) ∷ [] gives 1 ∷ [])
+    ∷ (one (ahead (log (2 ∷ [])) (log (1 ∷ 1 ∷ 1 ∷ []))) ∷ [] gives 1 ∷ [])
+    ∷ (one (ahead (log (1 ∷ 1 ∷ [])) (log (1 ∷ []))) ∷ [] gives 1 ∷ [])
+    ∷ (replies (two (1 ∷ []) (2 ∷ 2 ∷ [])) (bytes 6 1 2 0) gives 20 ∷ [])
+    ∷ (replies (two (1 ∷ []) (1 ∷ 2 ∷ [])) (bytes 6 1 2 0) gives 0 ∷ [])
+    ∷ (replies (two (1 ∷ 1 ∷ []) (2 ∷ [])) backTwice gives 0 ∷ 0 ∷ [])
+    ∷ (length (server (run (two (1 ∷ 1 ∷ []) (2 ∷ [])) backTwice .table) 1 .log) ∷ [] gives 0 ∷ [])
+    ∷ (replies (two (1 ∷ []) (1 ∷ 2 ∷ [])) (bytes 7 1 2 0) gives 21 ∷ [])
+    ∷ (replies alone (bytes 3 1 1 0) gives 6 ∷ [])
+    ∷ (replies alone (bytes 4 1 1 0) gives 18 ∷ [])
+    ∷ (replies (fresh 4 15) (bytes 8 1 0 3) gives 6 ∷ [])
+    ∷ []

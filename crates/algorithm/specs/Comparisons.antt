@@ -1,0 +1,29 @@
+-- How configurations and logs compare. (What a majority is stands in the crate `members`.) Assumes nothing.
+use Prim.Native.Nat.{ℕ}
+use mathlib.Core.Bool.{Bool, true, false, _&&_, _||_}
+use mathlib.Core.List.{[], _∷_}
+use lib.Dec.{leb, ltb, eqb}
+use lib.ListN.{length}
+use Rattle.algorithm.specs.Table.{Config, Log, termAt}
+
+-- C is newer than D: its term is larger, or that is equal and its version is larger
+abbrev pub newer : Config → Config → Bool
+newer C D = ltb (D .term) (C .term) || eqb (C .term) (D .term) && ltb (D .version) (C .version)
+
+-- the last entry's term; of an empty log 0
+abbrev pub last : Log → ℕ
+last l = termAt l (length l)
+
+-- l is ahead of m: its last entry is larger, or the last entries are equal and it is longer
+abbrev pub ahead : Log → Log → Bool
+ahead l m = ltb (last m) (last l) || eqb (last l) (last m) && ltb (length m) (length l)
+
+-- l has the term t at position p
+abbrev pub held : Log → ℕ → ℕ → Bool
+held l p t = leb 1 p && leb p (length l) && eqb (termAt l p) t
+
+-- l is the beginning of m
+unfoldable pub prefix : Log → Log → Bool
+prefix [] m = true
+prefix (e ∷ l) [] = false
+prefix (e ∷ l) (f ∷ m) = eqb (e .term) (f .term) && prefix l m

@@ -1,0 +1,81 @@
+-- The algorithm without logs and marks: roles, terms and configurations, and actions 1 to 4 alone. Assumes nothing.
+use Prim.Native.Nat.{ℕ, _+_, _≤_, _<_}
+use mathlib.Core.Bool.{cond, not}
+use mathlib.Core.List.{List, [], _∷_, _++_}
+use mathlib.Core.Logic.{_⊎_}
+use mathlib.Core.Path.{_≡_}
+use lib.Dec.{T, eqb}
+use Rattle.members.specs.Members.{Member, Majority, MajoritiesMeet, All, Most, member}
+use Rattle.algorithm.specs.Table.{Server, Table, server, absent, freshServer}
+use Rattle.algorithm.specs.Comparisons.{newer}
+use Rattle.algorithm.specs.Actions.{withConfig, withLog, steppedDown, winner, nextConfig}
+
+-- the servers by their numbers, with no entry in any log
+abbrev pub State : Type 0
+State = ℕ → Server
+
+-- a table with logs and marks left out
+abbrev pub core : Table → State
+core t n = withLog [] (server t n)
+
+-- f, but a at k
+unfoldable pub put : {A : Type 0} → (ℕ → A) → ℕ → A → ℕ → A
+put f k a n = cond (eqb n k) a (f n)
+
+pub data Action : Type 0 where
+  elect reconfigure : ℕ → ℕ → Action
+  send spread : ℕ → ℕ → Action
+
+pub record CanElect (s : State) (i q : ℕ) : Type 0 where
+  pub majority : Majority q (s i .config .set)
+  pub self : Member i q
+  pub terms : All q (λ n. s n .term ≤ s i .term)
+  pub configs : All q (λ n. T (not (newer (s n .config) (s i .config))))
+
+pub record CanReconfigure (s : State) (i m : ℕ) : Type 0 where
+  pub primary : s i .role ≡ 1
+  pub self : Member i m
+  pub meet : MajoritiesMeet (s i .config .set) m
+  pub Q1 : Most (s i .config .set) (λ n. (s n .config .version ≡ s i .config .version) × (s n .config .term ≡ s i .config .term))
+  pub Q2 : Most (s i .config .set) (λ n. s n .term ≡ s i .term)
+
+pub record CanSend (s : State) (i j : ℕ) : Type 0 where
+  pub secondary : s j .role ≡ 0
+  pub newer : T (newer (s i .config) (s j .config))
+
+abbrev pub Allowed : State → Action → Type 0
+Allowed s (elect i q) = CanElect s i q
+Allowed s (reconfigure i m) = CanReconfigure s i m
+Allowed s (send i j) = CanSend s i j
+Allowed s (spread i j) = s j .term < s i .term
+
+-- the members of q have the term T and are secondary
+unfoldable pub voted : State → ℕ → ℕ → State
+voted s q T n = cond (member n q) (steppedDown T (s n)) (s n)
+
+abbrev pub after : State → Action → State
+after s (elect i q) = put (voted s q (s i .term + 1)) i (winner (s i .term + 1) (s i))
+after s (reconfigure i m) = put s i (withConfig (nextConfig m (s i .config)) (s i))
+after s (send i j) = put s j (withConfig (s i .config) (s j))
+after s (spread i j) = put s j (steppedDown (s i .term) (s j))
+
+-- the term that an action wins, if it is an election
+abbrev pub won : State → Action → List ℕ
+won s (elect i q) = (s i .term + 1) ∷ []
+won s (reconfigure i m) = []
+won s (send i j) = []
+won s (spread i j) = []
+
+-- One step from s to s′, with the terms ts won: an allowed action is taken, or nothing changes.
+pub data Move (s : State) : State → List ℕ → Type 0 where
+  rests : Move s s []
+  takes : (a : Action) → Allowed s a → Move s (after s a) (won s a)
+
+-- Steps one after another, with the terms won in order.
+pub data Moves : State → State → List ℕ → Type 0 where
+  none : {s : State} → Moves s s []
+  then : {s s′ s″ : State} {ts us : List ℕ} → Move s s′ ts → Moves s′ s″ us → Moves s s″ (ts ++ us)
+
+-- every server that is there is fresh, with the set M
+abbrev pub Fresh : ℕ → State → Type 0
+Fresh M s = (n : ℕ) → (s n ≡ freshServer M) ⊎ (s n ≡ absent)

@@ -1,0 +1,45 @@
+-- One action on a table, and a list of them. Assumes nothing.
+use Prim.Native.Nat.{ℕ, zero, suc, _+_, _/_}
+use mathlib.Core.Bool.{cond}
+use mathlib.Core.List.{List, [], _∷_}
+use lib.Dec.{eqb}
+use lib.ListN.{length, take, drop}
+use Rattle.algorithm.specs.Table.{Table}
+use Rattle.algorithm.specs.Refusals.{refusals, first, actionOf, after}
+
+-- the reply's number, 0 for taken, and the table afterwards
+pub record Outcome : Type 0 where
+  pub number : ℕ
+  pub table : Table
+
+-- the action in the bytes a is taken if no refusal holds, and otherwise changes nothing
+unfoldable pub step : Table → List ℕ → Outcome
+step t a =
+    let k = first (refusals t a) in
+    record { number = k; table = cond (eqb k 0) (after t (actionOf a)) t }
+
+-- the first k pieces of 8 bytes; what is missing at the end makes a piece shorter
+unfoldable pub pieces : ℕ → List ℕ → List (List ℕ)
+pieces zero p = []
+pieces (suc k) p = take 8 p ∷ pieces k (drop 8 p)
+
+-- how many pieces the bytes make, a shorter last one included
+abbrev pub pieceCount : List ℕ → ℕ
+pieceCount p = (length p + 7) / 8
+
+-- the replies in order, and the last table
+pub record Ran : Type 0 where
+  pub replies : List ℕ
+  pub table : Table
+
+-- actions one after another; a refused one leaves the table
+unfoldable pub play : Table → List (List ℕ) → Ran
+play t [] = record { replies = []; table = t }
+play t (a ∷ rest) =
+    let o = step t a in
+    let r = play (o .table) rest in
+    record { replies = o .number ∷ r .replies; table = r .table }
+
+-- the run of a plan, any list of bytes
+abbrev pub run : Table → List ℕ → Ran
+run t p = play t (pieces (pieceCount p) p)

@@ -1,0 +1,125 @@
+-- The table: its figures, its rules, and a fresh one. Assumes nothing.
+use Prim.Native.Nat.{ℕ, zero, suc}
+use mathlib.Core.Bool.{Bool, true, false, not, _&&_, _||_}
+use mathlib.Core.List.{List, [], _∷_}
+use lib.Dec.{leb, eqb}
+use lib.ListN.{length, getD, set, replicate}
+use Rattle.members.specs.Members.{within}
+
+-- ---- lists counted from 1
+
+module _ {A : Type 0} where
+  -- element i of a list, counted from 1, and d where there is none
+  unfoldable pub nth : List A → ℕ → A → A
+  nth l zero d = d
+  nth l (suc k) d = getD l k d
+
+  -- the list with a for its element i; as it is where it has none
+  unfoldable pub replace : List A → ℕ → A → List A
+  replace l zero a = l
+  replace l (suc k) a = set l k a
+
+  -- every element passes p
+  unfoldable pub every : (A → Bool) → List A → Bool
+  every p [] = true
+  every p (a ∷ l) = p a && every p l
+
+-- ---- figures
+
+-- a configuration: a set of servers, a version, a configuration term
+pub record Config : Type 0 where
+  pub set : ℕ
+  pub version : ℕ
+  pub term : ℕ
+
+-- an entry of a log
+pub record Entry : Type 0 where
+  pub term : ℕ
+
+abbrev pub Log : Type 0
+Log = List Entry
+
+-- a server: its role is 0 for secondary, 1 for primary
+pub record Server : Type 0 where
+  pub role : ℕ
+  pub term : ℕ
+  pub config : Config
+  pub log : Log
+
+-- the servers 1 to n in order, and for each position 1 to 64 the term committed there, or 0
+pub record Table : Type 0 where
+  pub servers : List Server
+  pub marks : List ℕ
+
+-- n, the number of servers
+abbrev pub count : Table → ℕ
+count t = length (t .servers)
+
+-- what stands for a server that is not in the table
+abbrev pub absent : Server
+absent = record { role = 0; term = 0; config = record { set = 0; version = 0; term = 0 }; log = [] }
+
+-- server i
+abbrev pub server : Table → ℕ → Server
+server t i = nth (t .servers) i absent
+
+abbrev pub primary : Server → Bool
+primary s = eqb (s .role) 1
+
+abbrev pub secondary : Server → Bool
+secondary s = eqb (s .role) 0
+
+-- the entry at a position, and one of term 0 where there is none
+abbrev pub entryAt : Log → ℕ → Entry
+entryAt l p = nth l p (record { term = 0 })
+
+-- its term
+abbrev pub termAt : Log → ℕ → ℕ
+termAt l p = entryAt l p .term
+
+-- the term committed at a position, or 0
+abbrev pub mark : Table → ℕ → ℕ
+mark t p = nth (t .marks) p 0
+
+-- ---- rules
+
+-- the largest term and the largest version
+abbrev pub ceiling : ℕ
+ceiling = 1000000000
+
+-- the number of positions
+abbrev pub positions : ℕ
+positions = 64
+
+-- a configuration of a table of n servers
+abbrev pub soundConfig : ℕ → Config → Bool
+soundConfig n c = within (c .set) n && leb 1 (c .version) && leb (c .version) ceiling && leb (c .term) ceiling
+
+-- an entry is never 0
+abbrev pub soundEntry : Entry → Bool
+soundEntry e = leb 1 (e .term) && leb (e .term) ceiling
+
+-- a server of a table of n servers; a primary's term is at least 1
+abbrev pub soundServer : ℕ → Server → Bool
+soundServer n s =
+    (primary s && leb 1 (s .term) || secondary s)
+    && leb (s .term) ceiling
+    && soundConfig n (s .config)
+    && leb (length (s .log)) positions
+    && every soundEntry (s .log)
+
+abbrev pub soundMarks : List ℕ → Bool
+soundMarks ms = eqb (length ms) positions && every (λ m. leb m ceiling) ms
+
+-- the table breaks a rule
+unfoldable pub broken : Table → Bool
+broken t = not (leb 1 (count t) && leb (count t) 16 && every (soundServer (count t)) (t .servers) && soundMarks (t .marks))
+
+-- ---- a fresh table
+
+abbrev pub freshServer : ℕ → Server
+freshServer M = record { role = 0; term = 0; config = record { set = M; version = 1; term = 0 }; log = [] }
+
+-- n servers with the set M
+abbrev pub fresh : ℕ → ℕ → Table
+fresh n M = record { servers = replicate n (freshServer M); marks = replicate positions 0 }

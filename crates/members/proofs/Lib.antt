@@ -1,0 +1,5 @@
+-- The laws of sets of servers.
+pub mod Counting
+pub mod Masks
+pub mod Majorities
+pub mod Meaning

@@ -1,0 +1,187 @@
+-- The laws of majorities: when they meet, what they have in common, and what the tests on members mean. Assumes nothing.
+use mathlib.Core.Path.{_≡_, refl, sym, ap, subst, _∙_}
+use mathlib.Core.Bool.{Bool, true, false, not, _&&_, _||_}
+use mathlib.Core.Logic.{_⊎_, inl, inr, ⊎-elim}
+use Prim.Native.Nat.{ℕ, zero, suc, _+_, _*_, _^_, _≤_, _<_}
+use native.Mathlib.Nat.{eq-or-lt-of-le}
+use native.Mathlib.Omega.{arith}
+use lib.Dec.{T, eqb, ltb, T-not, not-T, ltb→lt, lt→ltb, eqb→eq, eqb-refl}
+use lib.Bits.{bitAnd, bitXor, and-self}
+use lib.Count.{ones}
+use mir.Facts.{and-yes, yes-and}
+use Rattle.members.specs.Members.{member, Member, Subset, oneApart, Majority, majority, Meet, MajoritiesMeet, All, Some, Most, Hits, mask, allPass, somePass, mostPass}
+use Rattle.members.proofs.Counting.{count, count-some, count-mono, count-both, count-unlike}
+use Rattle.members.proofs.Masks.{fits, ext, ones-count, ones-shared, ones-unlike, and-member, in-mask, mask-in, member-pos, member-le, a-member, member-some}
+
+-- ---- subsets and majorities, as they are tested
+
+and-absorb : (a b : Bool) → (T a → T b) → (a && b) ≡ a
+and-absorb true true h = refl
+and-absorb true false h = absurd (h tt)
+and-absorb false b h = refl
+
+subset-and : (q m : ℕ) → Subset q m → bitAnd q m ≡ q
+subset-and q m h = ext (bitAnd q m) q (λ s. and-member s q m ∙ and-absorb (member s q) (member s m) (h s))
+
+and-subset : (q m : ℕ) → bitAnd q m ≡ q → Subset q m
+and-subset q m e s t = and-yes (member s q) (member s m) (subst T (ap (member s) (sym e) ∙ and-member s q m) t) .1
+
+subset-ones : (q m : ℕ) → Subset q m → ones q ≤ ones m
+subset-ones q m h =
+    let n : ℕ = q + m in
+    omega (
+      arith,
+      ones-count n {m = q} (fits n (omega arith)),
+      ones-count n {m = m} (fits n (omega arith)),
+      count-mono n (λ s. member s q) (λ s. member s m) h,
+    )
+
+pub majority-is : (q m : ℕ) → T (majority q m) → Majority q m
+majority-is q m t =
+    let both = and-yes (eqb (bitAnd q m) q) (ltb (ones m) (2 * ones q)) t in
+    record { inside = and-subset q m (eqb→eq (bitAnd q m) q (both .0)); more = ltb→lt (ones m) (2 * ones q) (both .1) }
+
+pub is-majority : (q m : ℕ) → Majority q m → T (majority q m)
+is-majority q m x =
+    yes-and (eqb (bitAnd q m) q) (ltb (ones m) (2 * ones q))
+    (subst (λ (y : ℕ). T (eqb y q)) (sym (subset-and q m (x .inside))) (eqb-refl q)) (lt→ltb (ones m) (2 * ones q) (x .more))
+
+-- ---- which majorities meet
+
+or-mono : (a b c d : Bool) → (T a → T c) → (T b → T d) → T (a || b) → T (c || d)
+or-mono true b true d f g t = tt
+or-mono true b false d f g t = absurd (f tt)
+or-mono false b true d f g t = tt
+or-mono false b false d f g t = g t
+
+-- the law behind the others: two subsets meet that have, with the shared servers, more servers than the two sets
+crowded-meet : (a b q r : ℕ) → Subset q a → Subset r b → ones a + ones b < ones q + ones r + ones (bitAnd a b) → Meet q r
+crowded-meet a b q r qa rb h =
+    let n : ℕ = a + b + q + r in
+    let size : (m : ℕ) → m ≤ n → ones m ≡ count n (λ s. member s m) = λ m l. ones-count n (fits n l) in
+    let some = count-some n (λ s. member s q && member s r) (omega (
+      arith,
+      size a (omega arith),
+      size b (omega arith),
+      size q (omega arith),
+      size r (omega arith),
+      ones-shared n a b (fits n (omega arith)),
+      count-both n (λ s. member s q) (λ s. member s r),
+      count-both n (λ s. member s a) (λ s. member s b),
+      count-mono n (λ s. member s q || member s r) (λ s. member s a || member s b)
+          (λ s. or-mono (member s q) (member s r) (member s a) (member s b) (qa s) (rb s)),
+    )) in
+    let both = and-yes (member (some .0) q) (member (some .0) r) (some .2) in
+    (some .0, both .0, both .1)
+
+pub same-set : (m : ℕ) → MajoritiesMeet m m
+same-set m q r x y = crowded-meet m m q r (x .inside) (y .inside) (omega (arith, ap ones (and-self m)))
+
+pub one-apart : (a b : ℕ) → T (oneApart a b) → MajoritiesMeet a b
+one-apart a b t q r x y =
+    let n : ℕ = a + b in
+    crowded-meet a b q r (x .inside) (y .inside) (omega (
+      arith,
+      eqb→eq (ones (bitXor a b)) 1 t,
+      ones-count n {m = a} (fits n (omega arith)),
+      ones-count n {m = b} (fits n (omega arith)),
+      ones-shared n a b (fits n (omega arith)),
+      ones-unlike n a b (fits n (omega arith)) (fits n (omega arith)),
+      count-unlike n (λ s. member s a) (λ s. member s b),
+    ))
+
+-- ---- a decision at every member
+
+-- either every member of q is P, or some member is R
+pub all-or-some : (P R : ℕ → Type 0) → ((s : ℕ) → P s ⊎ R s) → (q : ℕ) → All q P ⊎ Some q R
+all-or-some P R decide q = ⊎-elim (λ f. inl (λ s m. f s (member-le q s (fits q (omega arith)) m) m)) inr (go q)
+  where
+    AllTo : ℕ → Type 0
+    AllTo n = (s : ℕ) → s ≤ n → Member s q → P s
+
+    next : (n : ℕ) → AllTo n → (b : Bool) → member (suc n) q ≡ b → P (suc n) ⊎ R (suc n) → AllTo (suc n) ⊎ Some q R
+    next n f true e (inr r) = inr (suc n, subst T (sym e) tt, r)
+    next n f true e (inl p) = inl (λ s l m. ⊎-elim (λ z. subst P (sym z) p) (λ k. f s (omega arith) m) (eq-or-lt-of-le l))
+    next n f false e d =
+        inl (λ s l m. ⊎-elim (λ z. absurd (subst T e (subst (λ (s : ℕ). Member s q) z m))) (λ k. f s (omega arith) m) (eq-or-lt-of-le l))
+
+    go : (n : ℕ) → AllTo n ⊎ Some q R
+    go zero = inl (λ s l m. absurd (omega (arith, member-pos s q m)))
+    go (suc n) = ⊎-elim (λ f. next n f (member (suc n) q) refl (decide (suc n))) inr (go n)
+
+-- ---- what a majority has in common, and what every majority meets
+
+pub meet-sym : {a b : ℕ} → MajoritiesMeet a b → MajoritiesMeet b a
+meet-sym m q r x y = let (s, u, v) = m r q y x in (s, v, u)
+
+pub most-hits : {a b : ℕ} {P : ℕ → Type 0} → MajoritiesMeet a b → Most a P → Hits b P
+most-hits m x r y = let (s, u, v) = m (x .by) r (x .majority) y in (s, v, x .all s u)
+
+-- a majority that is all P has a member that is R, where every majority has one
+pub most-and-hits : {a : ℕ} {P R : ℕ → Type 0} → Most a P → Hits a R → (s : ℕ) × P s × R s
+most-and-hits x h = let (s, u, r) = h (x .by) (x .majority) in (s, x .all s u, r)
+
+pub hits-map : {a : ℕ} {P R : ℕ → Type 0} → ((s : ℕ) → P s → R s) → Hits a P → Hits a R
+hits-map f h q x = let (s, u, p) = h q x in (s, u, f s p)
+
+pub most-map : {a : ℕ} {P R : ℕ → Type 0} → ((s : ℕ) → P s → R s) → Most a P → Most a R
+most-map f x = record { by = x .by; majority = x .majority; all = λ s u. f s (x .all s u) }
+
+-- ---- what the tests on the members of a set of servers 1 to n mean
+
+passes-or-fails : (b : Bool) → T b ⊎ T (not b)
+passes-or-fails true = inl tt
+passes-or-fails false = inr tt
+
+module _ (n m : ℕ) (width : m < 2 ^ n) (p : ℕ → Bool) where
+  -- a member of m that passes is in what `&` leaves
+  passing : (s : ℕ) → Member s m → T (p s) → Member s (bitAnd m (mask n p))
+  passing s u v =
+      subst T (sym (and-member s m (mask n p)))
+      (yes-and (member s m) (member s (mask n p)) u (mask-in n p s (member-pos s m u) (member-le n s width u) v))
+
+  passed : (s : ℕ) → Member s (bitAnd m (mask n p)) → Member s m × T (p s)
+  passed s t =
+      let both = and-yes (member s m) (member s (mask n p)) (subst T (and-member s m (mask n p)) t) in
+      (both .0, in-mask n p s (both .1))
+
+  pub all-pass : T (allPass n p m) → All m (λ s. T (p s))
+  all-pass t s u = passed s (subst (Member s) (sym (eqb→eq (bitAnd m (mask n p)) m t)) u) .1
+
+  pub pass-all : All m (λ s. T (p s)) → T (allPass n p m)
+  pass-all h =
+      subst (λ (k : ℕ). T (eqb k m))
+      (sym (subset-and m (mask n p) (λ s u. mask-in n p s (member-pos s m u) (member-le n s width u) (h s u)))) (eqb-refl m)
+
+  pub some-passes : T (somePass n p m) → Some m (λ s. T (p s))
+  some-passes t =
+      let (s, u) = a-member (bitAnd m (mask n p)) (ltb→lt 0 (bitAnd m (mask n p)) t) in
+      (s, passed s u .0, passed s u .1)
+
+  pub pass-some : Some m (λ s. T (p s)) → T (somePass n p m)
+  pass-some (s, u, v) = lt→ltb 0 (bitAnd m (mask n p)) (member-some s (bitAnd m (mask n p)) (passing s u v))
+
+  pub none-passes : T (not (somePass n p m)) → All m (λ s. T (not (p s)))
+  none-passes t s u = not-T (p s) (λ v. T-not (somePass n p m) t (pass-some (s, u, v)))
+
+  pub most-pass : T (mostPass n p m) → Most m (λ s. T (p s))
+  most-pass t =
+      record { by = bitAnd m (mask n p); majority = majority-is (bitAnd m (mask n p)) m t; all = λ s u. passed s u .1 }
+
+  pub pass-most : Most m (λ s. T (p s)) → T (mostPass n p m)
+  pass-most x =
+      is-majority (bitAnd m (mask n p)) m
+      (record {
+        inside = λ s t. passed s t .0;
+        more = omega (
+          arith,
+          x .majority .more,
+          subset-ones (x .by) (bitAnd m (mask n p)) (λ s u. passing s (x .majority .inside s u) (x .all s u)),
+        );
+      })
+
+  -- where no majority passes, every majority has a member that fails
+  pub majorities-fail : T (not (mostPass n p m)) → Hits m (λ s. T (not (p s)))
+  majorities-fail t q x =
+      ⊎-elim (λ all. absurd (T-not (mostPass n p m) t (pass-most (record { by = q; majority = x; all = all })))) (λ f. f)
+      (all-or-some (λ s. T (p s)) (λ s. T (not (p s))) (λ s. passes-or-fails (p s)) q)

@@ -1,0 +1,95 @@
+-- Sets of servers as numbers: server s is bit s - 1, and `ones m` is how many servers m has. Definitions alone. Assumes nothing.
+use mathlib.Core.Bool.{Bool, true, false, _&&_}
+use Prim.Native.Nat.{ℕ, zero, suc, _+_, _*_, _/_, _%_, _^_, _<_}
+use lib.Dec.{T, ltb, eqb}
+use lib.Bits.{bitAnd, bitXor}
+use lib.Count.{ones}
+
+-- ---- members
+
+-- bit k of m is set
+abbrev pub bit : ℕ → ℕ → Bool
+bit k m = eqb (m / 2 ^ k % 2) 1
+
+-- server s is in m; there is no server 0
+abbrev pub member : ℕ → ℕ → Bool
+member zero m = false
+member (suc k) m = bit k m
+
+abbrev pub Member : ℕ → ℕ → Type 0
+Member s m = T (member s m)
+
+-- m is not empty and has servers 1 to n only
+abbrev pub within : ℕ → ℕ → Bool
+within m n = ltb 0 m && ltb m (2 ^ n)
+
+-- one server is in one of the two sets and not in the other
+abbrev pub oneApart : ℕ → ℕ → Bool
+oneApart a b = eqb (ones (bitXor a b)) 1
+
+-- ---- majorities
+
+-- every server of q is in m
+abbrev pub Subset : ℕ → ℕ → Type 0
+Subset q m = (s : ℕ) → Member s q → Member s m
+
+-- q is a subset of m with more than half of its members
+pub record Majority (q m : ℕ) : Type 0 where
+  pub inside : Subset q m
+  pub more : ones m < 2 * ones q
+
+-- the same as a test
+abbrev pub majority : ℕ → ℕ → Bool
+majority q m = eqb (bitAnd q m) q && ltb (ones m) (2 * ones q)
+
+-- some server is in both
+abbrev pub Meet : ℕ → ℕ → Type 0
+Meet q r = (s : ℕ) × Member s q × Member s r
+
+-- every majority of a meets every majority of b
+abbrev pub MajoritiesMeet : ℕ → ℕ → Type 0
+MajoritiesMeet a b = (q r : ℕ) → Majority q a → Majority r b → Meet q r
+
+-- ---- what is said of the members of a set
+
+-- every member of q is P
+abbrev pub All : ℕ → (ℕ → Type 0) → Type 0
+All q P = (s : ℕ) → Member s q → P s
+
+-- some member of q is P
+abbrev pub Some : ℕ → (ℕ → Type 0) → Type 0
+Some q P = (s : ℕ) × Member s q × P s
+
+-- some majority of m is all P
+pub record Most (m : ℕ) (P : ℕ → Type 0) : Type 0 where
+  pub by : ℕ
+  pub majority : Majority by m
+  pub all : All by P
+
+-- every majority of m has a member that is P
+abbrev pub Hits : ℕ → (ℕ → Type 0) → Type 0
+Hits m P = (q : ℕ) → Majority q m → Some q P
+
+-- ---- the same as tests, for sets of servers 1 to n
+
+-- 1 for a test that passes, and 0
+abbrev pub one : Bool → ℕ
+one true = 1
+one false = 0
+
+-- the servers 1 to n that pass p
+unfoldable pub mask : ℕ → (ℕ → Bool) → ℕ
+mask zero p = 0
+mask (suc k) p = one (p (suc k)) * 2 ^ k + mask k p
+
+-- every member of q passes p
+abbrev pub allPass : ℕ → (ℕ → Bool) → ℕ → Bool
+allPass n p q = eqb (bitAnd q (mask n p)) q
+
+-- some member of q passes p
+abbrev pub somePass : ℕ → (ℕ → Bool) → ℕ → Bool
+somePass n p q = ltb 0 (bitAnd q (mask n p))
+
+-- a majority of m passes p: those members of m that do are one
+abbrev pub mostPass : ℕ → (ℕ → Bool) → ℕ → Bool
+mostPass n p m = majority (bitAnd m (mask n p)) m

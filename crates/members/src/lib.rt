@@ -1,0 +1,46 @@
+// Sets of servers as masks: server s is bit s - 1.
+ghost use mathlib.Core.Path.{_≡_};
+ghost use Prim.Native.Nat.{_+_, _*_, _^_, _<_};
+ghost use Rattle.members.specs.Members.{one, member, majority, oneApart, within};
+
+// Server s is in m.
+pub fn is_member(s: u8, m: u16) -> bool
+    ensures { λ r. ⌜ r ≡ member s m ⌝ }
+{
+    if s == 0 || 16 < s {
+        return false;
+    }
+    (m >> (s - 1)) % 2 == 1
+}
+
+// m is not empty and has servers 1 to n only.
+pub fn is_within(m: u16, n: u8) -> bool
+    ensures { λ r. ⌜ r ≡ within m n ⌝ }
+{
+    0 < m && (16 <= n || m >> n == 0)
+}
+
+// One server is in one of the two sets and not in the other.
+pub fn is_one_apart(a: u16, b: u16) -> bool
+    ensures { λ r. ⌜ r ≡ oneApart a b ⌝ }
+{
+    u16::count_ones(a ^ b) == 1
+}
+
+// q is a subset of m with more than half of its members.
+pub fn is_majority(q: u16, m: u16) -> bool
+    ensures { λ r. ⌜ r ≡ majority q m ⌝ }
+{
+    q & m == q && u16::count_ones(m) < 2 * u16::count_ones(q)
+}
+
+// The set m of servers 1 to k, and server k + 1 if b: how a loop over the servers builds the set of those that pass a test.
+pub fn with_next(m: u16, k: usize, b: bool) -> u16
+    requires { ⌜ (k < 16) × (m < 2 ^ k) ⌝ }
+    ensures { λ r. ⌜ r ≡ one b * 2 ^ k + m ⌝ }
+{
+    if b {
+        return (1 << k) + m;
+    }
+    m
+}
