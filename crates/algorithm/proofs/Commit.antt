@@ -8,7 +8,7 @@ use native.Mathlib.Decide.{ℕ-discrete}
 use native.Mathlib.Omega.{arith}
 use lib.Dec.{T, eqb}
 use lib.ListN.{length, take, drop}
-use mir.Facts.{yes-eqb}
+use Rattle.members.proofs.Tests.{Passes, first-of, second-of, is-equal}
 use Rattle.algorithm.specs.Table.{Table, every, count, server, mark}
 use Rattle.algorithm.specs.Actions.{Refusal, refuse, electRefusals, reconfigureRefusals, sendRefusals, spreadRefusals, writeRefusals, fetchRefusals, rollBackRefusals, commitRefusals}
 use Rattle.algorithm.specs.Refusals.{Action, unknown, elect, reconfigure, send, spread, write, fetch, rollBack, commit, actionOf, commonRefusals, ownRefusals, refusals, first}
@@ -25,32 +25,22 @@ unnumbered : (rs : List Refusal) → T (every (λ r. not (eqb (r .number) 24)) r
 unfolding first
 unnumbered rs h z = omega (arith, first-later 24 rs [] h (rw append-nil z) .1)
 
-or-right : (x y : Bool) → T y → T (x || y)
-or-right true y h = tt
-or-right false y h = h
+-- the position of a commit is free, or marked with the same term, so that the last refusal of a commit does not hold
+not-last : (t : Table) → Safe (view t) → (i q : ℕ) → CanCommit (view t) i q → first (drop 4 (commitRefusals t i q)) ≡ 24 → ⊥
+unfolding first
+not-last t safe i q can z = go (eqb u 0 || eqb u (server t i .term)) (free-or-same (ℕ-discrete u 0)) z
+  where
+    u : ℕ
+    u = mark t (length (server t i .log))
 
-module _ (t : Table) (safe : Safe (view t)) (i q : ℕ) (can : CanCommit (view t) i q) where
-  -- the position of a commit is free, or marked with the same term
-  free-or-same : T (eqb (mark t (length (server t i .log))) 0 || eqb (mark t (length (server t i .log))) (server t i .term))
-  free-or-same = go (ℕ-discrete u 0)
-    where
-      u : ℕ
-      u = mark t (length (server t i .log))
+    free-or-same : Dec (u ≡ 0) → Passes (eqb u 0 || eqb u (server t i .term))
+    free-or-same (yes z) = first-of _ (is-equal z)
+    free-or-same (no z) =
+        second-of (eqb u 0) (is-equal (marked-so (view t) (safe .configs) (safe .logs) i q can (record { is = refl; positive = omega arith })))
 
-      go : Dec (u ≡ 0) → T (eqb u 0 || eqb u (server t i .term))
-      go (yes z) = rw z tt
-      go (no z) =
-          or-right (eqb u 0) (eqb u (server t i .term))
-          (yes-eqb (marked-so (view t) (safe .configs) (safe .logs) i q can (record { is = refl; positive = omega arith })))
-
-  -- so that the last refusal of a commit does not hold
-  not-last : first (drop 4 (commitRefusals t i q)) ≡ 24 → ⊥
-  unfolding first
-  not-last z = let u = mark t (length (server t i .log)) in go (eqb u 0 || eqb u (server t i .term)) free-or-same z
-    where
-      go : (b : Bool) → T b → first (refuse 24 (not b) ∷ []) ≡ 24 → ⊥
-      go true h z = omega arith
-      go false h z = absurd h
+    go : (b : Bool) → Passes b → first (refuse 24 (not b) ∷ []) ≡ 24 → ⊥
+    go true h z = omega arith
+    go false h z = absurd (h .yes)
 
 module _ (t : Table) (safe : Safe (view t)) (a : List ℕ) where
   -- 24 is the last that a commit looks at, and no other kind looks at it

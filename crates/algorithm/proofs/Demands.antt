@@ -15,6 +15,7 @@ use Rattle.algorithm.specs.Run.{step, pieces, pieceCount, play, run}
 use Rattle.algorithm.specs.Demand.{wonBy, wonAlong, termsWon, Rising}
 use Rattle.algorithm.specs.Logless as logless
 use Rattle.algorithm.specs.Logless.{core, Moves, none, then}
+use Rattle.algorithm.proofs.Logs.{Holds}
 use Rattle.algorithm.proofs.Invariant.{Leads}
 use Rattle.algorithm.proofs.Elections.{wins-rise}
 use Rattle.algorithm.proofs.Seen.{view}
@@ -67,8 +68,7 @@ module _ (n M : ℕ) (plan : List ℕ) where
   -- every primary holds, at its position, each entry marked with a term not above its own
   pub primaries-complete : (i p : ℕ) → T (primary (server end i)) → 0 < mark end p → mark end p ≤ server end i .term → T (held (server end i .log) p (mark end p))
   primaries-complete i p leader marked below =
-      is-held (server end i .log) p (mark end p)
-      (safe .logs .leads (leads i leader) .complete (record { is = refl; positive = marked }) (omega (arith, safe .configs .own (leads i leader))))
+      is-held (safe .logs .leads (leads i leader) .complete (record { is = refl; positive = marked }) (omega (arith, safe .configs .own (leads i leader)))) .yes
 
   -- a term has one primary at most
   pub one-primary : (i j : ℕ) → T (primary (server end i)) → T (primary (server end j)) → server end i .term ≡ server end j .term → i ≡ j
@@ -78,4 +78,7 @@ module _ (n M : ℕ) (plan : List ℕ) where
   -- two logs that have one term at a position agree up to there
   pub logs-match : (i j p u : ℕ) → T (held (server end i .log) p u) → T (held (server end j .log) p u)
       → (r : ℕ) → r ≤ p → termAt (server end i .log) r ≡ termAt (server end j .log) r
-  logs-match i j p u h k = safe .logs .agree (held-is (server end i .log) p u h) (held-is (server end j .log) p u k) (omega arith)
+  logs-match i j p u h k =
+      let a : Holds (server end i .log) p u = held-is (record { yes = h }) in
+      let b : Holds (server end j .log) p u = held-is (record { yes = k }) in
+      safe .logs .agree {m = i} {n = j} a b (omega arith)

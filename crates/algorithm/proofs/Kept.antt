@@ -1,49 +1,49 @@
 -- A step of a table that keeps the rules gives one that keeps them, and a fresh table keeps them. Assumes nothing.
 use Prim.Native.Nat.{ℕ, _+_, _-_, _≤_, _<_}
-use mathlib.Core.Bool.{Bool, not, _&&_, _||_}
+use mathlib.Core.Bool.{not, _&&_}
 use mathlib.Core.List.{List, [], _∷_, _++_}
 use mathlib.Core.Logic.{_≢_, inl, inr, ⊎-elim}
 use mathlib.Core.Path.{_≡_, refl, sym, subst}
 use native.Mathlib.Omega.{arith}
-use lib.Dec.{T, leb, ltb, eqb, leb→le, le→leb}
-use lib.ListN.{length, take, replicate, length-append, length-take, length-replicate}
-use mir.Facts.{and-yes, yes-and, T-not-not, leb-no, ltb-yes, eqb-no, eqb-yes, yes-eqb}
+use lib.Dec.{leb, ltb}
+use lib.ListN.{length, take, length-append, length-take, length-replicate}
 use Rattle.members.specs.Members.{within}
-use Rattle.algorithm.specs.Table.{Entry, Log, Server, Table, every, count, server, primary, entryAt, ceiling, positions, soundEntry, soundServer, soundMarks, broken, freshServer, fresh}
-use Rattle.algorithm.specs.Actions.{withServer, withConfig, withLog, steppedDown, voted, winner, nextConfig, appended, joins}
+use Rattle.members.proofs.Tests.{Passes, Fails, both, together, refuted, equal, unequal, less, above, is-at-most}
+use Rattle.algorithm.specs.Table.{Entry, Log, Table, every, count, server, primary, entryAt, ceiling, positions, soundEntry, soundServer, broken, freshServer, fresh}
+use Rattle.algorithm.specs.Actions.{withServer, withConfig, withLog, steppedDown, winner, nextConfig, appended}
 use Rattle.algorithm.specs.Refusals.{Action, unknown, elect, reconfigure, send, spread, write, fetch, rollBack, commit, actionOf, after}
 use Rattle.algorithm.specs.Run.{step}
 use Rattle.algorithm.proofs.Lists.{every-nth, every-plus, every-take, every-replicate}
 use Rattle.algorithm.proofs.Refused.{Taken, outcome}
 use Rattle.algorithm.proofs.Seen.{count-voted}
-use Rattle.algorithm.proofs.Sound.{SoundServer, SoundTable, table-sound, sound-table, sound-server, here-sound, with-sound, stepped-sound, voted-sound, mark-sound}
+use Rattle.algorithm.proofs.Sound.{SoundServer, SoundTable, table-sound, sound-table, sound-server, here-sound, with-sound, mark-sound, stepped-sound, voted-sound}
 
 module _ {t : Table} (h : SoundTable t) (i : ℕ) (a : SoundServer (count t) (server t i)) where
-  log-sound : (l : Log) → length l ≤ positions → T (every soundEntry l) → SoundTable (withServer t i (withLog l (server t i)))
+  log-sound : (l : Log) → length l ≤ positions → Passes (every soundEntry l) → SoundTable (withServer t i (withLog l (server t i)))
   log-sound l short e =
       with-sound h i (withLog l (server t i)) (record { role = a .role; term = a .term; config = a .config; short = short; entries = e })
 
-  appended-sound : (e : Entry) → length (server t i .log) < positions → T (soundEntry e) → SoundTable (appended t i e)
+  appended-sound : (e : Entry) → length (server t i .log) < positions → Passes (soundEntry e) → SoundTable (appended t i e)
   appended-sound e short s =
       log-sound (server t i .log ++ (e ∷ [])) (omega (arith, length-append (server t i .log) (e ∷ [])))
       (every-plus soundEntry (server t i .log) e (a .entries) s)
 
   -- a primary's term can be an entry
-  primary-term : T (not (not (primary (server t i)))) → T (soundEntry (record { term = server t i .term }))
+  primary-term : Fails (not (primary (server t i))) → Passes (soundEntry (record { term = server t i .term }))
   primary-term p =
-      let e : server t i .role ≡ 1 = eqb-yes (T-not-not (primary (server t i)) p) in
-      yes-and (leb 1 (server t i .term)) (leb (server t i .term) ceiling)
-      (⊎-elim (λ r. le→leb 1 (server t i .term) (r .1)) (λ r. absurd (omega arith)) (a .role)) (le→leb (server t i .term) ceiling (a .term))
+      let e : server t i .role ≡ 1 = equal (refuted p) in
+      let some : 1 ≤ server t i .term = ⊎-elim (λ r. r .1) (λ r. absurd (omega arith)) (a .role) in
+      together (is-at-most some) (is-at-most (a .term))
 
 after-sound : (t : Table) (a : Action) → Taken t a → SoundTable (after t a)
 unfolding after
-after-sound t unknown k = table-sound t (k .sound)
+after-sound t unknown k = table-sound (k .sound)
 after-sound t (elect i q) k =
-    let h = table-sound t (k .sound) in
+    let h = table-sound (k .sound) in
     let a = here-sound h i (k .fit .0) in
     let (_, (_, (_, (_, (below, _))))) = k .own in
     let T′ : ℕ = server t i .term + 1 in
-    let not-top : server t i .term ≢ ceiling = eqb-no below in
+    let not-top : server t i .term ≢ ceiling = unequal below in
     let top : T′ ≤ ceiling = omega (arith, a .term) in
     with-sound (voted-sound h q T′ top) i (winner T′ (server t i))
     (subst (λ (n : ℕ). SoundServer n (winner T′ (server t i))) (sym (count-voted q T′ t))
@@ -55,10 +55,10 @@ after-sound t (elect i q) k =
       entries = a .entries;
     }))
 after-sound t (reconfigure i m) k =
-    let h = table-sound t (k .sound) in
+    let h = table-sound (k .sound) in
     let a = here-sound h i (k .fit .0) in
     let (_, (below, _)) = k .own in
-    let not-top : server t i .config .version ≢ ceiling = eqb-no below in
+    let not-top : server t i .config .version ≢ ceiling = unequal below in
     with-sound h i (withConfig (nextConfig m (server t i .config)) (server t i))
     (record {
       role = a .role;
@@ -69,66 +69,59 @@ after-sound t (reconfigure i m) k =
       entries = a .entries;
     })
 after-sound t (send i j) k =
-    let h = table-sound t (k .sound) in
+    let h = table-sound (k .sound) in
     let b = here-sound h j (k .fit .1) in
     with-sound h j (withConfig (server t i .config) (server t j))
     (record { role = b .role; term = b .term; config = here-sound h i (k .fit .0) .config; short = b .short; entries = b .entries })
 after-sound t (spread i j) k =
-    let h = table-sound t (k .sound) in
+    let h = table-sound (k .sound) in
     with-sound h j (steppedDown (server t i .term) (server t j))
     (stepped-sound (here-sound h j (k .fit .1)) (server t i .term) (here-sound h i (k .fit .0) .term))
 after-sound t (write i) k =
-    let h = table-sound t (k .sound) in
+    let h = table-sound (k .sound) in
     let a = here-sound h i (k .fit) in
     let (leads, (room, _)) = k .own in
-    appended-sound h i a (record { term = server t i .term }) (leb-no room) (primary-term h i a leads)
+    appended-sound h i a (record { term = server t i .term }) (above room) (primary-term h i a leads)
 after-sound t (fetch i j) k =
-    let h = table-sound t (k .sound) in
+    let h = table-sound (k .sound) in
     let b = here-sound h j (k .fit .1) in
     let (_, (goes-on, _)) = k .own in
     let l : Log = server t i .log in
     let m : Log = server t j .log in
-    let longer : length l < length m =
-    ltb-yes (and-yes (ltb (length l) (length m)) (joins l m) (T-not-not (ltb (length l) (length m) && joins l m) goes-on) .0) in
+    let (first, _) = both (refuted goes-on) in
+    let longer : length l < length m = less first in
     appended-sound h i (here-sound h i (k .fit .0)) (entryAt m (length l + 1)) (omega (arith, b .short))
     (every-nth soundEntry m (length l + 1) (record { term = 0 }) (b .entries) (omega arith) (omega arith))
 after-sound t (rollBack i j) k =
-    let h = table-sound t (k .sound) in
+    let h = table-sound (k .sound) in
     let a = here-sound h i (k .fit .0) in
     let l : Log = server t i .log in
     log-sound h i a (take (length l - 1) l) (omega (arith, a .short, length-take (length l - 1) l)) (every-take soundEntry (length l - 1) l (a .entries))
 after-sound t (commit i q) k =
-    let h = table-sound t (k .sound) in
+    let h = table-sound (k .sound) in
     mark-sound h (length (server t i .log)) (server t i .term) (here-sound h i (k .fit .0) .term)
 
 -- a step of a table that is not broken gives a table that is not broken
-pub step-sound : (t : Table) (a : List ℕ) → T (not (broken t)) → T (not (broken (step t a .table)))
+pub step-sound : (t : Table) (a : List ℕ) → Fails (broken t) → Fails (broken (step t a .table))
 step-sound t a h =
-    ⊎-elim
-    (λ d. rw (d .table) (sound-table (after t (actionOf a)) (after-sound t (actionOf a) (d .taken))))
-    (λ r. rw (r .table) h)
-    (outcome t a)
+    ⊎-elim (λ d. rw (d .table) (sound-table (after-sound t (actionOf a) (d .taken)))) (λ r. rw (r .table) h) (outcome t a)
 
 -- a fresh table of 1 to 16 servers with a set within them is not broken
-pub fresh-sound : (n M : ℕ) → 1 ≤ n → n ≤ 16 → T (within M n) → T (not (broken (fresh n M)))
+pub fresh-sound : (n M : ℕ) → 1 ≤ n → n ≤ 16 → Passes (within M n) → Fails (broken (fresh n M))
 unfolding every
 fresh-sound n M some few w =
     let e : count (fresh n M) ≡ n = length-replicate n (freshServer M) in
-    sound-table (fresh n M)
-    (record {
+    let sound : SoundServer (count (fresh n M)) (freshServer M) = record {
+      role = inr refl;
+      term = omega arith;
+      config = record { set = rw e w; some = omega arith; version = omega arith; term = omega arith };
+      short = omega arith;
+      entries = record { yes = tt };
+    } in
+    sound-table (record {
       some = omega arith;
       few = omega arith;
-      servers =
-          every-replicate (soundServer (count (fresh n M))) n (freshServer M)
-          (sound-server (count (fresh n M)) (freshServer M)
-          (record {
-            role = inr refl;
-            term = omega arith;
-            config = record { set = rw e w; some = omega arith; version = omega arith; term = omega arith };
-            short = omega arith;
-            entries = tt;
-          }));
-      marks =
-          yes-and (eqb (length (fresh n M .marks)) positions) (every (λ m. leb m ceiling) (fresh n M .marks))
-          (yes-eqb (length-replicate {A = ℕ} positions 0)) (every-replicate (λ m. leb m ceiling) positions 0 tt);
+      servers = every-replicate (soundServer (count (fresh n M))) n (freshServer M) (sound-server sound);
+      full = length-replicate {A = ℕ} positions 0;
+      marks = every-replicate (λ m. leb m ceiling) positions 0 (record { yes = tt });
     })

@@ -1,16 +1,15 @@
 -- Laws of lists counted from 1. Assumes nothing.
 use Prim.Native.Nat.{ℕ, zero, suc, _≤_, _<_}
-use mathlib.Core.Bool.{Bool, true, false, _&&_}
+use mathlib.Core.Bool.{Bool}
 use mathlib.Core.List.{List, [], _∷_, _++_}
 use mathlib.Core.Logic.{_≢_}
 use mathlib.Core.Path.{_≡_, refl, sym, ap, _∙_}
 use native.Mathlib.Decide.{ℕ-discrete}
 use native.Mathlib.Omega.{arith}
-use lib.Dec.{T, eqb}
 use lib.ListN.{length, getD, take, set, length-set, replicate}
 use lib.Seq.{getD-set-same, getD-set-other}
 use borrow.Author.Tests.{eq-eqb, ne-eqb}
-use mir.Facts.{and-yes, yes-and}
+use Rattle.members.proofs.Tests.{Passes, both, together}
 use Rattle.algorithm.specs.Table.{nth, replace, every}
 use Rattle.algorithm.specs.Logless.{put}
 
@@ -36,42 +35,44 @@ module _ {A : Type 0} where
   -- ---- every element
 
   module _ (p : A → Bool) where
-    pub every-nth : (l : List A) (i : ℕ) (d : A) → T (every p l) → 1 ≤ i → i ≤ length l → T (p (nth l i d))
-    unfolding nth every
+    pub every-cons : (a : A) (l : List A) → Passes (every p (a ∷ l)) → Passes (p a) × Passes (every p l)
+    unfolding every
+    every-cons a l t = both {a = p a} t
+
+    pub cons-every : (a : A) (l : List A) → Passes (p a) → Passes (every p l) → Passes (every p (a ∷ l))
+    unfolding every
+    cons-every a l h t = together {a = p a} h t
+
+    nil-every : Passes (every p [])
+    unfolding every
+    nil-every = record { yes = tt }
+
+    pub every-nth : (l : List A) (i : ℕ) (d : A) → Passes (every p l) → 1 ≤ i → i ≤ length l → Passes (p (nth l i d))
+    unfolding nth
     every-nth l zero d t h k = absurd (omega arith)
     every-nth [] (suc i) d t h k = absurd (omega arith)
-    every-nth (a ∷ l) (suc zero) d t h k = and-yes (p a) (every p l) t .0
-    every-nth (a ∷ l) (suc (suc i)) d t h k = every-nth l (suc i) d (and-yes (p a) (every p l) t .1) (omega arith) (omega arith)
+    every-nth (a ∷ l) (suc zero) d t h k = every-cons a l t .0
+    every-nth (a ∷ l) (suc (suc i)) d t h k = every-nth l (suc i) d (every-cons a l t .1) (omega arith) (omega arith)
 
-    every-set : (l : List A) (k : ℕ) (a : A) → T (every p l) → T (p a) → T (every p (set l k a))
-    unfolding every
-    every-set [] k a t h = tt
-    every-set (b ∷ l) zero a t h = yes-and (p a) (every p l) h (and-yes (p b) (every p l) t .1)
-    every-set (b ∷ l) (suc k) a t h =
-        let both = and-yes (p b) (every p l) t in
-        yes-and (p b) (every p (set l k a)) (both .0) (every-set l k a (both .1) h)
+    every-set : (l : List A) (k : ℕ) (a : A) → Passes (every p l) → Passes (p a) → Passes (every p (set l k a))
+    every-set [] k a t h = t
+    every-set (b ∷ l) zero a t h = cons-every a l h (every-cons b l t .1)
+    every-set (b ∷ l) (suc k) a t h = let (here, rest) = every-cons b l t in cons-every b (set l k a) here (every-set l k a rest h)
 
-    pub every-replace : (l : List A) (i : ℕ) (a : A) → T (every p l) → T (p a) → T (every p (replace l i a))
+    pub every-replace : (l : List A) (i : ℕ) (a : A) → Passes (every p l) → Passes (p a) → Passes (every p (replace l i a))
     unfolding replace
     every-replace l zero a t h = t
     every-replace l (suc k) a t h = every-set l k a t h
 
-    pub every-plus : (l : List A) (a : A) → T (every p l) → T (p a) → T (every p (l ++ (a ∷ [])))
-    unfolding every
-    every-plus [] a t h = yes-and (p a) true h tt
-    every-plus (b ∷ l) a t h =
-        let both = and-yes (p b) (every p l) t in
-        yes-and (p b) (every p (l ++ (a ∷ []))) (both .0) (every-plus l a (both .1) h)
+    pub every-plus : (l : List A) (a : A) → Passes (every p l) → Passes (p a) → Passes (every p (l ++ (a ∷ [])))
+    every-plus [] a t h = cons-every a [] h t
+    every-plus (b ∷ l) a t h = let (here, rest) = every-cons b l t in cons-every b (l ++ (a ∷ [])) here (every-plus l a rest h)
 
-    pub every-take : (n : ℕ) (l : List A) → T (every p l) → T (every p (take n l))
-    unfolding every
-    every-take zero l t = tt
-    every-take (suc n) [] t = tt
-    every-take (suc n) (b ∷ l) t =
-        let both = and-yes (p b) (every p l) t in
-        yes-and (p b) (every p (take n l)) (both .0) (every-take n l (both .1))
+    pub every-take : (n : ℕ) (l : List A) → Passes (every p l) → Passes (every p (take n l))
+    every-take zero l t = nil-every
+    every-take (suc n) [] t = t
+    every-take (suc n) (b ∷ l) t = let (here, rest) = every-cons b l t in cons-every b (take n l) here (every-take n l rest)
 
-    pub every-replicate : (n : ℕ) (a : A) → T (p a) → T (every p (replicate n a))
-    unfolding every
-    every-replicate zero a h = tt
-    every-replicate (suc n) a h = yes-and (p a) (every p (replicate n a)) h (every-replicate n a h)
+    pub every-replicate : (n : ℕ) (a : A) → Passes (p a) → Passes (every p (replicate n a))
+    every-replicate zero a h = nil-every
+    every-replicate (suc n) a h = cons-every a (replicate n a) h (every-replicate n a h)

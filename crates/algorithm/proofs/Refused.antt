@@ -8,8 +8,9 @@ use native.Mathlib.Omega.{arith}
 use lib.Dec.{T, ltb, eqb, ltb→lt, T-not}
 use lib.ListN.{length, getD}
 use borrow.Author.Tests.{eqb-true, eqb-false}
-use mir.Facts.{and-yes, T-not-not, eqb-no}
+use mir.Facts.{and-yes, eqb-no}
 use Rattle.members.specs.Members.{within}
+use Rattle.members.proofs.Tests.{Passes, Fails, both, refuted}
 use Rattle.algorithm.specs.Table.{Table, every, count, broken}
 use Rattle.algorithm.specs.Actions.{Refusal}
 use Rattle.algorithm.specs.Refusals.{Action, unknown, elect, reconfigure, send, spread, write, fetch, rollBack, commit, kinds, kindOf, firstOf, secondOf, setOf, usesSet, usesSecond, actionOf, known, commonRefusals, ownRefusals, refusals, first, after}
@@ -20,7 +21,7 @@ use Rattle.algorithm.specs.Demand.{stakes, wonBy}
 
 abbrev pub NoneHold : List Refusal → Type 0
 NoneHold [] = Unit {0}
-NoneHold (r ∷ rs) = T (not (r .holds)) × NoneHold rs
+NoneHold (r ∷ rs) = Fails (r .holds) × NoneHold rs
 
 -- where the number given stands in the second of two lists, nothing of the first holds
 pub first-later : (k : ℕ) (rs later : List Refusal) → T (every (λ r. not (eqb (r .number) k)) rs) → first (rs ++ later) ≡ k
@@ -32,9 +33,9 @@ first-later k (r ∷ rs) later p e =
     go (r .holds) here (first-later k rs later others) e
   where
     go : (b : Bool) → T (not (eqb (r .number) k)) → (first (rs ++ later) ≡ k → NoneHold rs × (first later ≡ k))
-        → cond b (r .number) (first (rs ++ later)) ≡ k → (T (not b) × NoneHold rs) × (first later ≡ k)
+        → cond b (r .number) (first (rs ++ later)) ≡ k → (Fails b × NoneHold rs) × (first later ≡ k)
     go true here rest z = absurd (eqb-no here z)
-    go false here rest z = let (n, f) = rest z in ((tt, n), f)
+    go false here rest z = let (n, f) = rest z in ((record { no = tt }, n), f)
 
 -- no refusal has the number 0
 own-numbered : (t : Table) (a : Action) → T (every (λ r. not (eqb (r .number) 0)) (ownRefusals t a))
@@ -53,43 +54,40 @@ own-numbered t (commit i q) = tt
 
 abbrev pub Fits : ℕ → Action → Type 0
 Fits n unknown = Unit {0}
-Fits n (elect i q) = T (known n i) × T (within q n)
-Fits n (reconfigure i m) = T (known n i) × T (within m n)
-Fits n (send i j) = T (known n i) × T (known n j)
-Fits n (spread i j) = T (known n i) × T (known n j)
-Fits n (write i) = T (known n i)
-Fits n (fetch i j) = T (known n i) × T (known n j)
-Fits n (rollBack i j) = T (known n i) × T (known n j)
-Fits n (commit i q) = T (known n i) × T (within q n)
+Fits n (elect i q) = Passes (known n i) × Passes (within q n)
+Fits n (reconfigure i m) = Passes (known n i) × Passes (within m n)
+Fits n (send i j) = Passes (known n i) × Passes (known n j)
+Fits n (spread i j) = Passes (known n i) × Passes (known n j)
+Fits n (write i) = Passes (known n i)
+Fits n (fetch i j) = Passes (known n i) × Passes (known n j)
+Fits n (rollBack i j) = Passes (known n i) × Passes (known n j)
+Fits n (commit i q) = Passes (known n i) × Passes (within q n)
 
-fits : (n k i j m : ℕ) → T (known n i) → T (not (usesSecond k) || known n j) → T (not (usesSet k && not (within m n)))
+fits : (n k i j m : ℕ) → Passes (known n i && (not (usesSecond k) || known n j)) → Fails (usesSet k && not (within m n))
     → Fits n (getD (kinds i j m) k unknown)
-fits n zero i j m a b c = tt
-fits n (suc zero) i j m a b c = (a, T-not-not (within m n) c)
-fits n (suc (suc zero)) i j m a b c = (a, T-not-not (within m n) c)
-fits n (suc (suc (suc zero))) i j m a b c = (a, b)
-fits n (suc (suc (suc (suc zero)))) i j m a b c = (a, b)
-fits n (suc (suc (suc (suc (suc zero))))) i j m a b c = a
-fits n (suc (suc (suc (suc (suc (suc zero)))))) i j m a b c = (a, b)
-fits n (suc (suc (suc (suc (suc (suc (suc zero))))))) i j m a b c = (a, b)
-fits n (suc (suc (suc (suc (suc (suc (suc (suc zero)))))))) i j m a b c = (a, T-not-not (within m n) c)
-fits n (suc (suc (suc (suc (suc (suc (suc (suc (suc k))))))))) i j m a b c = tt
+fits n zero i j m a b = tt
+fits n (suc zero) i j m a b = (both a .0, refuted b)
+fits n (suc (suc zero)) i j m a b = (both a .0, refuted b)
+fits n (suc (suc (suc zero))) i j m a b = both a
+fits n (suc (suc (suc (suc zero)))) i j m a b = both a
+fits n (suc (suc (suc (suc (suc zero))))) i j m a b = both a .0
+fits n (suc (suc (suc (suc (suc (suc zero)))))) i j m a b = both a
+fits n (suc (suc (suc (suc (suc (suc (suc zero))))))) i j m a b = both a
+fits n (suc (suc (suc (suc (suc (suc (suc (suc zero)))))))) i j m a b = (both a .0, refuted b)
+fits n (suc (suc (suc (suc (suc (suc (suc (suc (suc k))))))))) i j m a b = tt
 
 -- ---- a step
 
 -- a taken action: the table keeps the rules, the action fits it, and no refusal of its kind holds
 pub record Taken (t : Table) (a : Action) : Type 0 where
-  pub sound : T (not (broken t))
+  pub sound : Fails (broken t)
   pub fit : Fits (count t) a
   pub own : NoneHold (ownRefusals t a)
 
 -- 1 to 5 do not hold: the table keeps the rules, and the action fits it
-pub common-fit : (t : Table) (a : List ℕ) → NoneHold (commonRefusals t a) → T (not (broken t)) × Fits (count t) (actionOf a)
+pub common-fit : (t : Table) (a : List ℕ) → NoneHold (commonRefusals t a) → Fails (broken t) × Fits (count t) (actionOf a)
 common-fit t a (sound, (_, (_, (servers, (sets, _))))) =
-    let i : Bool = known (count t) (firstOf a) in
-    let j : Bool = not (usesSecond (kindOf a)) || known (count t) (secondOf a) in
-    let (knows-i, knows-j) = and-yes i j (T-not-not (i && j) servers) in
-    (sound, fits (count t) (kindOf a) (firstOf a) (secondOf a) (setOf a) knows-i knows-j sets)
+    (sound, fits (count t) (kindOf a) (firstOf a) (secondOf a) (setOf a) (refuted servers) sets)
 
 taken : (t : Table) (a : List ℕ) → first (refusals t a) ≡ 0 → Taken t (actionOf a)
 unfolding refusals every

@@ -1,22 +1,19 @@
 -- What holds of runs because it holds of steps; runs joined; marks stay. Assumes nothing.
 use Prim.Native.Nat.{ℕ, zero, suc, _+_, _*_, _/_, _<_}
-use mathlib.Core.Bool.{Bool, not, _||_}
 use mathlib.Core.List.{List, [], _∷_, _++_}
 use mathlib.Core.Logic.{_≢_, ⊎-elim}
 use mathlib.Core.Path.{_≡_, refl, sym, ap, _∙_, subst}
-use native.Mathlib.Nat.{eq-zero-or-pos}
 use native.Mathlib.Omega.{arith}
-use lib.Dec.{T, eqb}
 use lib.ListN.{length, take, drop, length-append, length-drop}
 use lib.Seq.{take-append-le, drop-append-le}
-use mir.Facts.{or-yes, or-no, T-not-not, eqb-yes, eqb-no}
+use Rattle.members.proofs.Tests.{Fails, either, neither, refuted, equal, unequal}
 use Rattle.algorithm.specs.Table.{Table, broken, count, server, mark}
 use Rattle.algorithm.specs.Refusals.{Action, unknown, elect, reconfigure, send, spread, write, fetch, rollBack, commit, actionOf, after}
 use Rattle.algorithm.specs.Run.{step, pieces, pieceCount, Ran, play, run}
 use Rattle.algorithm.proofs.Choice.{put-elim}
 use Rattle.algorithm.proofs.Lists.{nth-replace}
 use Rattle.algorithm.proofs.Refused.{Taken, outcome}
-use Rattle.algorithm.proofs.Sound.{table-sound, here-sound, marks-full}
+use Rattle.algorithm.proofs.Sound.{table-sound, here-sound}
 use Rattle.algorithm.proofs.Kept.{step-sound}
 
 -- ---- steps and runs
@@ -27,8 +24,8 @@ unfolding play
 play-keeps P keeps t [] h = h
 play-keeps P keeps t (a ∷ p) h = play-keeps P keeps (step t a .table) p (keeps t a h)
 
-pub run-sound : (t : Table) (p : List ℕ) → T (not (broken t)) → T (not (broken (run t p .table)))
-run-sound t p = play-keeps (λ t. T (not (broken t))) step-sound t (pieces (pieceCount p) p)
+pub run-sound : (t : Table) (p : List ℕ) → Fails (broken t) → Fails (broken (run t p .table))
+run-sound t p = play-keeps (λ t. Fails (broken t)) step-sound t (pieces (pieceCount p) p)
 
 -- ---- one plan after another
 
@@ -64,15 +61,14 @@ run-append t k p q e =
 commit-marks : (t : Table) (i q : ℕ) → Taken t (commit i q) → (p : ℕ) → 0 < mark t p → mark (after t (commit i q)) p ≡ mark t p
 unfolding after
 commit-marks t i q k p o =
-    let h = table-sound t (k .sound) in
+    let h = table-sound (k .sound) in
     let (_, (_, (entry, (_, (other, _))))) = k .own in
     let at : ℕ = length (server t i .log) in
-    let some : at ≢ 0 = eqb-no (or-no (eqb at 0) _ entry .0) in
-    let free : Bool = eqb (mark t at) 0 in
-    let same : Bool = eqb (mark t at) (server t i .term) in
-    nth-replace (t .marks) at (server t i .term) 0 (omega arith) (omega (arith, marks-full h, here-sound h i (k .fit .0) .short)) p
+    let (empty, _) = neither entry in
+    let some : at ≢ 0 = unequal empty in
+    nth-replace (t .marks) at (server t i .term) 0 (omega arith) (omega (arith, h .full, here-sound h i (k .fit .0) .short)) p
     ∙ put-elim (λ n x. 0 < mark t n → x ≡ mark t n)
-    (λ m. ⊎-elim (λ z. let e : mark t at ≡ 0 = eqb-yes z in absurd (omega arith)) (λ e. sym (eqb-yes e)) (or-yes free same (T-not-not (free || same) other)))
+    (λ m. ⊎-elim (λ z. let e : mark t at ≡ 0 = equal z in absurd (omega arith)) (λ e. sym (equal e)) (either (refuted other)))
     (λ n _. refl) p o
 
 marks-after : (t : Table) (a : Action) → Taken t a → (p : ℕ) → 0 < mark t p → mark (after t a) p ≡ mark t p

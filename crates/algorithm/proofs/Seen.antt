@@ -6,10 +6,10 @@ use mathlib.Core.Logic.{_⊎_, inl, inr}
 use mathlib.Core.Path.{_≡_, refl, sym, ap, _∙_}
 use native.Mathlib.Decide.{decLt}
 use native.Mathlib.Omega.{arith}
-use lib.Dec.{T, eqb, ltb, leb, leb→le, ltb→lt}
+use lib.Dec.{ltb, eqb}
 use lib.ListN.{length, getD, List·getD-eq-default, replicate}
-use mir.Facts.{and-yes}
 use Rattle.members.specs.Members.{member, within}
+use Rattle.members.proofs.Tests.{Passes, both, less, at-most}
 use Rattle.members.proofs.Masks.{member-above}
 use Rattle.algorithm.specs.Table.{Log, Server, Table, nth, server, mark, count, absent, freshServer, fresh, positions}
 use Rattle.algorithm.specs.Actions.{withServer, withLog, steppedDown, votersFrom, voted}
@@ -28,17 +28,17 @@ pub view-is : (t : Table) {c : State} {L : ℕ → Log} {M : ℕ → ℕ} → ((
     → ((p : ℕ) → mark t p ≡ M p) → view t ≡ record { core = c; log = L; mark = M }
 view-is t f g h = λ i. record { core = λ n. f n i; log = λ n. g n i; mark = λ p. h p i }
 
-pub known-range : (n i : ℕ) → T (known n i) → (1 ≤ i) × (i ≤ n)
-known-range n i t = let (a, b) = and-yes (leb 1 i) (leb i n) t in (leb→le 1 i a, leb→le i n b)
+pub known-range : {n i : ℕ} → Passes (known n i) → (1 ≤ i) × (i ≤ n)
+known-range k = let (a, b) = both k in (at-most a, at-most b)
 
-pub within-width : (m n : ℕ) → T (within m n) → m < 2 ^ n
-within-width m n t = ltb→lt m (2 ^ n) (and-yes (ltb 0 m) (ltb m (2 ^ n)) t .1)
+pub within-width : {m : ℕ} (n : ℕ) → Passes (within m n) → m < 2 ^ n
+within-width {m} n w = less (both {a = ltb 0 m} w .1)
 
 -- ---- another server i
 
-module _ (t : Table) (i : ℕ) (s : Server) (here : T (known (count t) i)) where
+module _ (t : Table) (i : ℕ) (s : Server) (here : Passes (known (count t) i)) where
   server-with : (n : ℕ) → server (withServer t i s) n ≡ put (server t) i s n
-  server-with = let (a, b) = known-range (count t) i here in nth-replace (t .servers) i s absent a b
+  server-with = let (a, b) = known-range here in nth-replace (t .servers) i s absent a b
 
   seen-with : {B : Type 0} (f : Server → B) (n : ℕ) → f (server (withServer t i s) n) ≡ put (λ m. f (server t m)) i (f s) n
   unfolding put
@@ -79,7 +79,7 @@ module _ (q T′ : ℕ) where
   pub count-voted : (t : Table) → count (voted t q T′) ≡ count t
   count-voted t = length-voters (t .servers) 1
 
-  module _ (t : Table) (sets : T (within q (count t))) where
+  module _ (t : Table) (sets : Passes (within q (count t))) where
     server-voted : (n : ℕ) → server (voted t q T′) n ≡ cond (member n q) (steppedDown T′ (server t n)) (server t n)
     unfolding nth
     server-voted zero = refl
@@ -92,7 +92,7 @@ module _ (q T′ : ℕ) where
             rw (
               List·getD-eq-default (votersFrom 1 q T′ (t .servers)) absent {n = m} (omega (arith, length-voters (t .servers) 1)),
               List·getD-eq-default (t .servers) absent {n = m} (omega arith),
-              member-above (count t) (suc m) (within-width q (count t) sets) (omega arith),
+              member-above (count t) (suc m) (within-width (count t) sets) (omega arith),
             )
 
     -- logs are those that were, and the rest is as the algorithm without logs says

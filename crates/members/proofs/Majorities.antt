@@ -1,15 +1,16 @@
 -- The laws of majorities: when they meet, what they have in common, and what the tests on members mean. Assumes nothing.
 use mathlib.Core.Path.{_≡_, refl, sym, ap, subst, _∙_}
-use mathlib.Core.Bool.{Bool, true, false, not, _&&_, _||_}
+use mathlib.Core.Bool.{Bool, true, false, _&&_, _||_}
 use mathlib.Core.Logic.{_⊎_, inl, inr, ⊎-elim}
 use Prim.Native.Nat.{ℕ, zero, suc, _+_, _*_, _^_, _≤_, _<_}
 use native.Mathlib.Nat.{eq-or-lt-of-le}
 use native.Mathlib.Omega.{arith}
-use lib.Dec.{T, eqb, ltb, T-not, not-T, ltb→lt, lt→ltb, eqb→eq, eqb-refl}
+use lib.Dec.{T}
 use lib.Bits.{bitAnd, bitXor, and-self}
 use lib.Count.{ones}
 use mir.Facts.{and-yes, yes-and}
 use Rattle.members.specs.Members.{member, Member, Subset, oneApart, Majority, majority, Meet, MajoritiesMeet, All, Some, Most, Hits, mask, allPass, somePass, mostPass}
+use Rattle.members.proofs.Tests.{Passes, Fails, both, together, contradiction, fails, passes-or-fails, equal, less, is-equal, is-less}
 use Rattle.members.proofs.Counting.{count, count-some, count-mono, count-both, count-unlike}
 use Rattle.members.proofs.Masks.{fits, ext, ones-count, ones-shared, ones-unlike, and-member, in-mask, mask-in, member-pos, member-le, a-member, member-some}
 
@@ -36,15 +37,11 @@ subset-ones q m h =
       count-mono n (λ s. member s q) (λ s. member s m) h,
     )
 
-pub majority-is : (q m : ℕ) → T (majority q m) → Majority q m
-majority-is q m t =
-    let both = and-yes (eqb (bitAnd q m) q) (ltb (ones m) (2 * ones q)) t in
-    record { inside = and-subset q m (eqb→eq (bitAnd q m) q (both .0)); more = ltb→lt (ones m) (2 * ones q) (both .1) }
+pub majority-is : {q m : ℕ} → Passes (majority q m) → Majority q m
+majority-is {q} {m} t = let (a, b) = both t in record { inside = and-subset q m (equal a); more = less b }
 
-pub is-majority : (q m : ℕ) → Majority q m → T (majority q m)
-is-majority q m x =
-    yes-and (eqb (bitAnd q m) q) (ltb (ones m) (2 * ones q))
-    (subst (λ (y : ℕ). T (eqb y q)) (sym (subset-and q m (x .inside))) (eqb-refl q)) (lt→ltb (ones m) (2 * ones q) (x .more))
+pub is-majority : {q m : ℕ} → Majority q m → Passes (majority q m)
+is-majority {q} {m} x = together (is-equal (subset-and q m (x .inside))) (is-less (x .more))
 
 -- ---- which majorities meet
 
@@ -77,12 +74,12 @@ crowded-meet a b q r qa rb h =
 pub same-set : (m : ℕ) → MajoritiesMeet m m
 same-set m q r x y = crowded-meet m m q r (x .inside) (y .inside) (omega (arith, ap ones (and-self m)))
 
-pub one-apart : (a b : ℕ) → T (oneApart a b) → MajoritiesMeet a b
-one-apart a b t q r x y =
+pub one-apart : {a b : ℕ} → Passes (oneApart a b) → MajoritiesMeet a b
+one-apart {a} {b} t q r x y =
     let n : ℕ = a + b in
+    let e : ones (bitXor a b) ≡ 1 = equal t in
     crowded-meet a b q r (x .inside) (y .inside) (omega (
       arith,
-      eqb→eq (ones (bitXor a b)) 1 t,
       ones-count n {m = a} (fits n (omega arith)),
       ones-count n {m = b} (fits n (omega arith)),
       ones-shared n a b (fits n (omega arith)),
@@ -129,48 +126,39 @@ most-map f x = record { by = x .by; majority = x .majority; all = λ s u. f s (x
 
 -- ---- what the tests on the members of a set of servers 1 to n mean
 
-passes-or-fails : (b : Bool) → T b ⊎ T (not b)
-passes-or-fails true = inl tt
-passes-or-fails false = inr tt
-
 module _ (n m : ℕ) (width : m < 2 ^ n) (p : ℕ → Bool) where
   -- a member of m that passes is in what `&` leaves
-  passing : (s : ℕ) → Member s m → T (p s) → Member s (bitAnd m (mask n p))
+  passing : (s : ℕ) → Member s m → Passes (p s) → Member s (bitAnd m (mask n p))
   passing s u v =
       subst T (sym (and-member s m (mask n p)))
-      (yes-and (member s m) (member s (mask n p)) u (mask-in n p s (member-pos s m u) (member-le n s width u) v))
+      (yes-and (member s m) (member s (mask n p)) u (mask-in n p s (member-pos s m u) (member-le n s width u) (v .yes)))
 
-  passed : (s : ℕ) → Member s (bitAnd m (mask n p)) → Member s m × T (p s)
+  passed : (s : ℕ) → Member s (bitAnd m (mask n p)) → Member s m × Passes (p s)
   passed s t =
-      let both = and-yes (member s m) (member s (mask n p)) (subst T (and-member s m (mask n p)) t) in
-      (both .0, in-mask n p s (both .1))
+      let (a, b) = and-yes (member s m) (member s (mask n p)) (subst T (and-member s m (mask n p)) t) in
+      (a, record { yes = in-mask n p s b })
 
-  pub all-pass : T (allPass n p m) → All m (λ s. T (p s))
-  all-pass t s u = passed s (subst (Member s) (sym (eqb→eq (bitAnd m (mask n p)) m t)) u) .1
+  pub all-pass : Passes (allPass n p m) → All m (λ s. Passes (p s))
+  all-pass t s u = passed s (subst (Member s) (sym (equal t)) u) .1
 
-  pub pass-all : All m (λ s. T (p s)) → T (allPass n p m)
-  pass-all h =
-      subst (λ (k : ℕ). T (eqb k m))
-      (sym (subset-and m (mask n p) (λ s u. mask-in n p s (member-pos s m u) (member-le n s width u) (h s u)))) (eqb-refl m)
+  pub pass-all : All m (λ s. Passes (p s)) → Passes (allPass n p m)
+  pass-all h = is-equal (subset-and m (mask n p) (λ s u. mask-in n p s (member-pos s m u) (member-le n s width u) (h s u .yes)))
 
-  pub some-passes : T (somePass n p m) → Some m (λ s. T (p s))
-  some-passes t =
-      let (s, u) = a-member (bitAnd m (mask n p)) (ltb→lt 0 (bitAnd m (mask n p)) t) in
-      (s, passed s u .0, passed s u .1)
+  pub some-passes : Passes (somePass n p m) → Some m (λ s. Passes (p s))
+  some-passes t = let (s, u) = a-member (bitAnd m (mask n p)) (less t) in (s, passed s u .0, passed s u .1)
 
-  pub pass-some : Some m (λ s. T (p s)) → T (somePass n p m)
-  pass-some (s, u, v) = lt→ltb 0 (bitAnd m (mask n p)) (member-some s (bitAnd m (mask n p)) (passing s u v))
+  pub pass-some : Some m (λ s. Passes (p s)) → Passes (somePass n p m)
+  pass-some (s, u, v) = is-less (member-some s (bitAnd m (mask n p)) (passing s u v))
 
-  pub none-passes : T (not (somePass n p m)) → All m (λ s. T (not (p s)))
-  none-passes t s u = not-T (p s) (λ v. T-not (somePass n p m) t (pass-some (s, u, v)))
+  pub none-passes : Fails (somePass n p m) → All m (λ s. Fails (p s))
+  none-passes t s u = fails (λ v. contradiction t (pass-some (s, u, v)))
 
-  pub most-pass : T (mostPass n p m) → Most m (λ s. T (p s))
-  most-pass t =
-      record { by = bitAnd m (mask n p); majority = majority-is (bitAnd m (mask n p)) m t; all = λ s u. passed s u .1 }
+  pub most-pass : Passes (mostPass n p m) → Most m (λ s. Passes (p s))
+  most-pass t = record { by = bitAnd m (mask n p); majority = majority-is t; all = λ s u. passed s u .1 }
 
-  pub pass-most : Most m (λ s. T (p s)) → T (mostPass n p m)
+  pub pass-most : Most m (λ s. Passes (p s)) → Passes (mostPass n p m)
   pass-most x =
-      is-majority (bitAnd m (mask n p)) m
+      is-majority
       (record {
         inside = λ s t. passed s t .0;
         more = omega (
@@ -181,7 +169,7 @@ module _ (n m : ℕ) (width : m < 2 ^ n) (p : ℕ → Bool) where
       })
 
   -- where no majority passes, every majority has a member that fails
-  pub majorities-fail : T (not (mostPass n p m)) → Hits m (λ s. T (not (p s)))
+  pub majorities-fail : Fails (mostPass n p m) → Hits m (λ s. Fails (p s))
   majorities-fail t q x =
-      ⊎-elim (λ all. absurd (T-not (mostPass n p m) t (pass-most (record { by = q; majority = x; all = all })))) (λ f. f)
-      (all-or-some (λ s. T (p s)) (λ s. T (not (p s))) (λ s. passes-or-fails (p s)) q)
+      ⊎-elim (λ all. absurd (contradiction t (pass-most (record { by = q; majority = x; all = all })))) (λ f. f)
+      (all-or-some (λ s. Passes (p s)) (λ s. Fails (p s)) (λ s. passes-or-fails (p s)) q)

@@ -1,15 +1,15 @@
 -- What `within` and `oneApart` mean in terms of members. (What `majority` and the tests on members mean is in `Majorities`.) Assumes nothing.
 use mathlib.Core.Path.{_≡_, refl, sym, ap, subst, _∙_}
-use mathlib.Core.Bool.{Bool, true, false, not, _&&_}
+use mathlib.Core.Bool.{Bool, true, false}
 use Prim.Native.Nat.{ℕ, zero, suc, _+_, _%_, _^_, _≤_, _<_}
 use native.Mathlib.Nat.{mod-lt}
 use native.Mathlib.Decide.{decLe}
 use native.Mathlib.Omega.{arith}
-use lib.Dec.{T, eqb, ltb, ltb→lt, lt→ltb, eqb→eq, eqb-refl}
+use lib.Dec.{T}
 use lib.Pow.{pow-pos}
 use lib.Bits.{bitXor}
 use lib.Count.{ones}
-use mir.Facts.{and-yes, yes-and}
+use Rattle.members.proofs.Tests.{Passes, both, together, equal, less, is-equal, is-less}
 use Rattle.members.proofs.Counting.{count, count-some, count-one, one-count, unlike}
 use Rattle.members.specs.Members.{member, Member, within, oneApart}
 use Rattle.members.proofs.Masks.{fits, ext, ones-unlike, bit-low, member-pos, member-le, member-above, a-member, member-some}
@@ -20,10 +20,8 @@ pub record Within (m n : ℕ) : Type 0 where
   pub some : (s : ℕ) × Member s m
   pub all : (s : ℕ) → Member s m → s ≤ n
 
-pub within-is : (m n : ℕ) → T (within m n) → Within m n
-within-is m n t =
-    let both = and-yes (ltb 0 m) (ltb m (2 ^ n)) t in
-    record { some = a-member m (ltb→lt 0 m (both .0)); all = λ s u. member-le n s (ltb→lt m (2 ^ n) (both .1)) u }
+pub within-is : {m n : ℕ} → Passes (within m n) → Within m n
+within-is {m} {n} t = let (a, b) = both t in record { some = a-member m (less a); all = λ s u. member-le n s (less b) u }
 
 -- members up to n alone stand in the n lowest digits
 low-digits : (m n : ℕ) → ((s : ℕ) → Member s m → s ≤ n) → m ≡ m % 2 ^ n
@@ -44,10 +42,10 @@ low-digits m n all = ext m (m % 2 ^ n) same
         go (yes l) = sym (bit-low k n m l)
         go (no l) = above (suc k) (omega arith) ∙ sym (member-above n (suc k) (mod-lt m (pow-pos n)) (omega arith))
 
-pub is-within : (m n : ℕ) → Within m n → T (within m n)
-is-within m n w =
-    yes-and (ltb 0 m) (ltb m (2 ^ n)) (lt→ltb 0 m (member-some (w .some .0) m (w .some .1)))
-    (lt→ltb m (2 ^ n) (omega (arith, low-digits m n (w .all), mod-lt m (pow-pos n))))
+pub is-within : {m n : ℕ} → Within m n → Passes (within m n)
+is-within {m} {n} w =
+    let low : m < 2 ^ n = omega (arith, low-digits m n (w .all), mod-lt m (pow-pos n)) in
+    together (is-less (member-some (w .some .0) m (w .some .1))) (is-less low)
 
 -- ---- one server added or removed
 
@@ -72,14 +70,14 @@ module _ (a b : ℕ) where
   range : (s : ℕ) → T (unlike (member s a) (member s b)) → (0 < s) × (s ≤ a + b)
   range s = differ-range (a + b) a b s (fits (a + b) (omega arith)) (fits (a + b) (omega arith))
 
-  pub one-apart-is : T (oneApart a b) → (s : ℕ) × OneApart a b s
+  pub one-apart-is : Passes (oneApart a b) → (s : ℕ) × OneApart a b s
   one-apart-is t =
       let f : ℕ → Bool = λ s. unlike (member s a) (member s b) in
-      let one : count (a + b) f ≡ 1 = omega (arith, counted, eqb→eq (ones (bitXor a b)) 1 t) in
+      let one : count (a + b) f ≡ 1 = sym counted ∙ equal t in
       let some = count-some (a + b) f (omega arith) in
       (some .0, record { here = some .2; only = λ u v. count-one (a + b) f (some .0) u one (range (some .0) (some .2) .0) (some .1) (some .2) (range u v .0) (range u v .1) v })
 
-  pub is-one-apart : (s : ℕ) → OneApart a b s → T (oneApart a b)
+  pub is-one-apart : (s : ℕ) → OneApart a b s → Passes (oneApart a b)
   is-one-apart s x =
-      subst (λ (k : ℕ). T (eqb k 1))
-      (sym (counted ∙ one-count (a + b) (λ t. unlike (member t a) (member t b)) s (range s (x .here) .0) (range s (x .here) .1) (x .here) (x .only))) tt
+      is-equal
+      (counted ∙ one-count (a + b) (λ t. unlike (member t a) (member t b)) s (range s (x .here) .0) (range s (x .here) .1) (x .here) (x .only))
