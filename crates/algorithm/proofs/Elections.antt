@@ -1,10 +1,10 @@
 -- From a fresh state the invariant holds, and the terms won by elections rise. Assumes nothing.
-use Prim.Native.Nat.{ℕ, _+_, _≤_, _<_}
+use Prim.Native.Nat.{ℕ, _+_}
 use mathlib.Core.List.{List, _++_}
 use mathlib.Core.Logic.{_⊎_, inl, inr, ⊎-elim}
-use mathlib.Core.Path.{_≡_, refl, ap, _∙_, sym}
+use mathlib.Core.Path.{_≡_, ap, _∙_, sym}
 use native.Mathlib.Omega.{arith}
-use Rattle.members.specs.Members.{Majority, MajoritiesMeet, Hits}
+use Rattle.members.specs.Members.{Majority}
 use Rattle.members.proofs.Masks.{member-some}
 use Rattle.members.proofs.Majorities.{same-set}
 use Rattle.algorithm.specs.Table.{Config, freshServer, absent}

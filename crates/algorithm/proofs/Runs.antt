@@ -1,13 +1,13 @@
 -- What holds of runs because it holds of steps; runs joined; marks stay. Assumes nothing.
-use Prim.Native.Nat.{ℕ, zero, suc, _+_, _*_, _/_, _<_}
+use Prim.Native.Nat.{ℕ, zero, suc, _+_, _*_, _<_}
 use mathlib.Core.List.{List, [], _∷_, _++_}
 use mathlib.Core.Logic.{_≢_, ⊎-elim}
-use mathlib.Core.Path.{_≡_, refl, sym, ap, _∙_, subst}
+use mathlib.Core.Path.{_≡_, refl, sym, ap, _∙_}
 use native.Mathlib.Omega.{arith}
 use lib.ListN.{length, take, drop, length-append, length-drop}
 use lib.Seq.{take-append-le, drop-append-le}
 use Rattle.members.proofs.Tests.{Fails, either, neither, refuted, equal, unequal}
-use Rattle.algorithm.specs.Table.{Table, broken, count, server, mark}
+use Rattle.algorithm.specs.Table.{Table, broken, server, mark}
 use Rattle.algorithm.specs.Refusals.{Action, unknown, elect, reconfigure, send, spread, write, fetch, rollBack, commit, actionOf, after}
 use Rattle.algorithm.specs.Run.{step, pieces, pieceCount, Ran, play, run}
 use Rattle.algorithm.proofs.Choice.{put-elim}

@@ -5,7 +5,7 @@ use mathlib.Core.Logic.{inl, inr, ⊎-elim}
 use mathlib.Core.Path.{_≡_, refl, ap}
 use native.Mathlib.Omega.{arith}
 use lib.ListN.{length, getD, replicate}
-use Rattle.algorithm.specs.Table.{Log, Table, nth, server, mark, fresh, freshServer, absent, positions}
+use Rattle.algorithm.specs.Table.{nth, server, mark, fresh, positions}
 use Rattle.algorithm.specs.Actions.{withLog}
 use Rattle.algorithm.specs.Logless as logless
 use Rattle.algorithm.specs.Logless.{core, Fresh}

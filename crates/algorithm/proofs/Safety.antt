@@ -18,7 +18,7 @@ use Rattle.algorithm.specs.Logless.{State, CanElect, CanReconfigure, put
 use Rattle.algorithm.proofs.Choice.{put-elim}
 use Rattle.algorithm.proofs.Logs.{Holds, Same, Prefix, at-zero, prefix-refl, plus-holds, length-plus, at-plus, at-plus-end, length-cut, at-cut, last-held, last-positive}
 use Rattle.algorithm.proofs.Orders.{not-larger}
-use Rattle.algorithm.proofs.Invariant.{Has, here, Leads, Inv}
+use Rattle.algorithm.proofs.Invariant.{here, Leads, Inv}
 use Rattle.algorithm.proofs.Steps.{Makes, elect-active, election-new, newest, leads}
 use Rattle.algorithm.proofs.LogInvariant.{LeadLog, LogInv, configs-change, logs-prefix, write-keeps, commit-keeps, no-other-mark}
 use Rattle.algorithm.proofs.Full.{View, Marked, Action, config, write, fetch, roll-back, commit, Settled, LogsAllow, CanFetch, CanRollBack, CanCommit, Allowed, after}

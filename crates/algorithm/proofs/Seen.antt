@@ -1,9 +1,9 @@
 -- How the theory sees a table, and what it sees after another server, other voters or another mark. Assumes nothing.
 use Prim.Native.Nat.{ℕ, zero, suc, _+_, _^_, _≤_, _<_}
-use mathlib.Core.Bool.{Bool, true, false, cond, not, _&&_}
+use mathlib.Core.Bool.{Bool, true, false, cond}
 use mathlib.Core.List.{List, [], _∷_}
 use mathlib.Core.Logic.{_⊎_, inl, inr}
-use mathlib.Core.Path.{_≡_, refl, sym, ap, _∙_}
+use mathlib.Core.Path.{_≡_, refl, ap, _∙_}
 use native.Mathlib.Decide.{decLt}
 use native.Mathlib.Omega.{arith}
 use lib.Dec.{ltb, eqb}
@@ -11,11 +11,11 @@ use lib.ListN.{length, getD, List·getD-eq-default, replicate}
 use Rattle.members.specs.Members.{member, within}
 use Rattle.members.proofs.Tests.{Passes, both, less, at-most}
 use Rattle.members.proofs.Masks.{member-above}
-use Rattle.algorithm.specs.Table.{Log, Server, Table, nth, server, mark, count, absent, freshServer, fresh, positions}
+use Rattle.algorithm.specs.Table.{Log, Server, Table, nth, server, mark, count, absent, freshServer, fresh}
 use Rattle.algorithm.specs.Actions.{withServer, withLog, steppedDown, votersFrom, voted}
 use Rattle.algorithm.specs.Refusals.{known}
 use Rattle.algorithm.specs.Logless as logless
-use Rattle.algorithm.specs.Logless.{State, core, put, Fresh}
+use Rattle.algorithm.specs.Logless.{State, core, put}
 use Rattle.algorithm.proofs.Choice.{put-elim}
 use Rattle.algorithm.proofs.Lists.{nth-replace}
 use Rattle.algorithm.proofs.Full.{View}

@@ -1,6 +1,6 @@
 -- A taken action of the algorithm is a step of the theory: what each test of a refusal means, kind by kind. Assumes nothing.
 use Prim.Native.Nat.{ℕ, zero, suc, _+_, _-_, _^_, _≤_, _<_}
-use mathlib.Core.Bool.{Bool, not, _&&_, _||_}
+use mathlib.Core.Bool.{not, _||_}
 use mathlib.Core.List.{List, [], _∷_, _++_}
 use mathlib.Core.Logic.{_≢_, inl, inr, ⊎-elim}
 use mathlib.Core.Path.{_≡_, refl, sym, ap, _∙_, subst}
@@ -10,9 +10,9 @@ use native.Mathlib.Omega.{arith}
 use lib.Dec.{eqb}
 use lib.ListN.{length, take, List·getD-eq-default}
 use Rattle.members.specs.Members.{member, within}
-use Rattle.members.proofs.Tests.{Passes, Fails, both, together, either, neither, refuted, contradiction, equal, unequal, less, not-less, at-most, is-equal, is-at-most}
+use Rattle.members.proofs.Tests.{Passes, both, together, either, neither, refuted, contradiction, equal, unequal, less, not-less, at-most, is-equal, is-at-most}
 use Rattle.members.proofs.Majorities.{majority-is, one-apart, all-pass, none-passes, most-pass, most-map}
-use Rattle.algorithm.specs.Table.{Log, Server, Table, nth, count, server, primary, termAt, entryAt, mark, positions}
+use Rattle.algorithm.specs.Table.{Log, Server, Table, nth, count, server, primary, entryAt, mark, positions}
 use Rattle.algorithm.specs.Comparisons.{newer, held, prefix}
 use Rattle.algorithm.specs.Actions.{withConfig, withLog, steppedDown, voted, winner, nextConfig, p1, someMarked, holdsMarked, electAfter, reconfigureAfter, sendAfter, spreadAfter, writeAfter, fetchAfter, rollBackAfter, commitRefusals, commitAfter}
 use Rattle.algorithm.specs.Refusals.{Action, unknown, elect, reconfigure, send, spread, write, fetch, rollBack, commit, known, after, actionOf}

@@ -3,7 +3,7 @@ use Prim.Native.Nat.{ℕ, _/_, _%_}
 use mathlib.Core.List.{List, [], _∷_, _++_, map}
 use lib.ListN.{length}
 use Rattle.members.specs.Members.{one}
-use Rattle.algorithm.specs.Table.{Config, Entry, Log, Server, Table, server, freshServer, fresh, positions}
+use Rattle.algorithm.specs.Table.{Log, Table, server, freshServer, fresh}
 use Rattle.algorithm.specs.Comparisons.{newer, ahead}
 use Rattle.algorithm.specs.Actions.{withLog, withServer, winner}
 use Rattle.algorithm.specs.Run.{run}

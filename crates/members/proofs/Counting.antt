@@ -1,9 +1,8 @@
 -- How many of the servers 1 to n pass a test. Assumes nothing.
-use mathlib.Core.Path.{_≡_, refl, sym, ap, subst, _∙_}
+use mathlib.Core.Path.{_≡_, refl, sym, ap, subst}
 use mathlib.Core.Bool.{Bool, true, false, not, _&&_, _||_}
 use Prim.Native.Nat.{ℕ, zero, suc, _+_, _*_, _≤_, _<_}
 use native.Mathlib.Decide.{decLe, decLt}
-use native.Mathlib.Numerals.{add-one}
 use native.Mathlib.Omega.{arith}
 use lib.Dec.{T}
 use Rattle.members.specs.Members.{one}
@@ -11,11 +10,6 @@ use Rattle.members.specs.Members.{one}
 unfoldable pub count : ℕ → (ℕ → Bool) → ℕ
 count zero f = 0
 count (suc k) f = one (f (suc k)) + count k f
-
--- a loop's step: the code counts to k + 1
-pub count-next : (k : ℕ) (f : ℕ → Bool) → count (k + 1) f ≡ one (f (suc k)) + count k f
-unfolding count
-count-next k f = ap (λ (n : ℕ). count n f) (add-one k)
 
 -- ---- one test
 

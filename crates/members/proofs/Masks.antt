@@ -211,15 +211,3 @@ in-mask n f (suc k) t = subst T (member-mask n f k (member-le n (suc k) (mask-lt
 pub mask-in : (n : ℕ) (f : ℕ → Bool) (s : ℕ) → 0 < s → s ≤ n → T (f s) → Member s (mask n f)
 mask-in n f zero h l t = absurd (omega arith)
 mask-in n f (suc k) h l t = subst T (sym (member-mask n f k l)) t
-
--- those that pass both tests
-pub mask-and : (n : ℕ) (f g : ℕ → Bool) → bitAnd (mask n f) (mask n g) ≡ mask n (λ s. f s && g s)
-mask-and n f g = ext (bitAnd (mask n f) (mask n g)) (mask n (λ s. f s && g s)) same
-  where
-    same : (s : ℕ) → member s (bitAnd (mask n f) (mask n g)) ≡ member s (mask n (λ s. f s && g s))
-    same zero = refl
-    same (suc k) = and-member (suc k) (mask n f) (mask n g) ∙ go (decLe (suc k) n)
-      where
-        go : Dec (suc k ≤ n) → (member (suc k) (mask n f) && member (suc k) (mask n g)) ≡ member (suc k) (mask n (λ s. f s && g s))
-        go (yes l) = ap₂ _&&_ (member-mask n f k l) (member-mask n g k l) ∙ sym (member-mask n (λ s. f s && g s) k l)
-        go (no l) = rw (member-above n (suc k) (mask-lt n f) (omega arith), member-above n (suc k) (mask-lt n (λ s. f s && g s)) (omega arith))

@@ -1,6 +1,6 @@
 -- `members::with_next` meets its contract: what is shifted by k below 16 stays below 2 ^ 16. Assumes nothing.
-use mathlib.Core.Path.{_≡_, ap}
-use Prim.Native.Nat.{ℕ, suc, _+_, _*_, _%_, _^_, _<_}
+use mathlib.Core.Path.{_≡_}
+use Prim.Native.Nat.{ℕ, suc, _*_, _%_, _^_, _<_}
 use native.Mathlib.Nat.{pow-suc}
 use native.Mathlib.Omega.{arith}
 use lib.Dec.{lit<}
@@ -8,7 +8,6 @@ use lib.Pow.{pow-mono, shl-exact}
 use borrow.Author.Needs.{needs}
 use Rattle.members.proofs.with_next.Statement.{statement}
 use Rattle.members.proofs.with_next.Tie as tie
-use Rattle.members.specs.Members.{one}
 
 shifted : (k : ℕ) → k < 16 → (1 * 2 ^ k) % 2 ^ 16 ≡ 1 * 2 ^ k
 shifted k h = shl-exact {a = 1} 1 k 16 (lit< tt) (omega arith)
