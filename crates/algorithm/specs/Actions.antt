@@ -33,13 +33,23 @@ steppedDown T s = record { role = 0; term = T; config = s .config; log = s .log 
 
 -- ---- 1: elect i by the set q
 
+-- server s has a larger term than i, a newer configuration, a log that is ahead
+abbrev pub largerTerm : Table → ℕ → ℕ → Bool
+largerTerm t i s = ltb (server t i .term) (server t s .term)
+
+abbrev pub newerConfig : Table → ℕ → ℕ → Bool
+newerConfig t i s = newer (server t s .config) (server t i .config)
+
+abbrev pub logAhead : Table → ℕ → ℕ → Bool
+logAhead t i s = ahead (server t s .log) (server t i .log)
+
 abbrev pub electRefusals : Table → ℕ → ℕ → List Refusal
 electRefusals t i q =
     let a = server t i in
     refuse 7 (not (majority q (a .config .set) && member i q))
-    ∷ refuse 8 (somePass (count t) (λ s. ltb (a .term) (server t s .term)) q)
-    ∷ refuse 9 (somePass (count t) (λ s. newer (server t s .config) (a .config)) q)
-    ∷ refuse 10 (somePass (count t) (λ s. ahead (server t s .log) (a .log)) q)
+    ∷ refuse 8 (somePass (count t) (largerTerm t i) q)
+    ∷ refuse 9 (somePass (count t) (newerConfig t i) q)
+    ∷ refuse 10 (somePass (count t) (logAhead t i) q)
     ∷ refuse 11 (eqb (a .term) ceiling)
     ∷ []
 
@@ -68,15 +78,13 @@ electAfter t i q =
 
 -- ---- 2: reconfigure i to the set m
 
--- Q1: a majority of i's set has i's version and configuration term
-abbrev pub q1 : Table → ℕ → Bool
-q1 t i =
-    let c = server t i .config in
-    mostPass (count t) (λ s. eqb (server t s .config .version) (c .version) && eqb (server t s .config .term) (c .term)) (c .set)
+-- server s has i's version and configuration term; it has i's term
+abbrev pub sameConfig : Table → ℕ → ℕ → Bool
+sameConfig t i s =
+    eqb (server t s .config .version) (server t i .config .version) && eqb (server t s .config .term) (server t i .config .term)
 
--- Q2: a majority of i's set has i's term
-abbrev pub q2 : Table → ℕ → Bool
-q2 t i = mostPass (count t) (λ s. eqb (server t s .term) (server t i .term)) (server t i .config .set)
+abbrev pub sameTerm : Table → ℕ → ℕ → Bool
+sameTerm t i s = eqb (server t s .term) (server t i .term)
 
 -- some of the positions 1 to k is marked with the term T
 unfoldable pub someMarked : ℕ → Table → ℕ → Bool
@@ -88,12 +96,20 @@ unfoldable pub holdsMarked : ℕ → Table → ℕ → Log → Bool
 holdsMarked zero t T l = true
 holdsMarked (suc k) t T l = (not (eqb (mark t (suc k)) T) || held l (suc k) T) && holdsMarked k t T l
 
--- P1: a mark carries i's term, and a majority of i's set has i's term and holds every entry so marked
+-- server s has i's term and holds every entry marked with it
+abbrev pub holdsCommitted : Table → ℕ → ℕ → Bool
+holdsCommitted t i s = sameTerm t i s && holdsMarked positions t (server t i .term) (server t s .log)
+
+-- Q1, Q2: a majority of i's set has i's version and configuration term; a majority has i's term
+abbrev pub q1 : Table → ℕ → Bool
+q1 t i = mostPass (count t) (sameConfig t i) (server t i .config .set)
+
+abbrev pub q2 : Table → ℕ → Bool
+q2 t i = mostPass (count t) (sameTerm t i) (server t i .config .set)
+
+-- P1: a mark carries i's term, and a majority of i's set has that term and holds every entry so marked
 abbrev pub p1 : Table → ℕ → Bool
-p1 t i =
-    let a = server t i in
-    someMarked positions t (a .term)
-    && mostPass (count t) (λ s. eqb (server t s .term) (a .term) && holdsMarked positions t (a .term) (server t s .log)) (a .config .set)
+p1 t i = someMarked positions t (server t i .term) && mostPass (count t) (holdsCommitted t i) (server t i .config .set)
 
 abbrev pub reconfigureRefusals : Table → ℕ → ℕ → List Refusal
 reconfigureRefusals t i m =
@@ -183,6 +199,10 @@ rollBackAfter t i j =
 
 -- ---- 8: commit at i by the set q
 
+-- server s has i's term and holds i's last entry
+abbrev pub holdsLast : Table → ℕ → ℕ → Bool
+holdsLast t i s = sameTerm t i s && held (server t s .log) (length (server t i .log)) (server t i .term)
+
 abbrev pub commitRefusals : Table → ℕ → ℕ → List Refusal
 commitRefusals t i q =
     let a = server t i in
@@ -190,7 +210,7 @@ commitRefusals t i q =
     refuse 6 (not (primary a))
     ∷ refuse 7 (not (majority q (a .config .set)))
     ∷ refuse 22 (eqb p 0 || not (eqb (last (a .log)) (a .term)))
-    ∷ refuse 23 (not (allPass (count t) (λ s. eqb (server t s .term) (a .term) && held (server t s .log) p (a .term)) q))
+    ∷ refuse 23 (not (allPass (count t) (holdsLast t i) q))
     ∷ refuse 24 (not (eqb (mark t p) 0 || eqb (mark t p) (a .term)))
     ∷ []
 
