@@ -40,6 +40,9 @@ play t (a ∷ rest) =
     let r = play (o .table) rest in
     record { replies = o .number ∷ r .replies; table = r .table }
 
--- the run of a plan, any list of bytes
+-- the run of the first k pieces of a plan, and of the whole plan, any list of bytes
+abbrev pub runTo : ℕ → Table → List ℕ → Ran
+runTo k t p = play t (pieces k p)
+
 abbrev pub run : Table → List ℕ → Ran
-run t p = play t (pieces (pieceCount p) p)
+run t p = runTo (pieceCount p) t p
