@@ -3,13 +3,14 @@ use Prim.Native.Nat.{ℕ, zero, suc, _+_, _*_, _<_}
 use mathlib.Core.List.{List, [], _∷_, _++_}
 use mathlib.Core.Logic.{_≢_, ⊎-elim}
 use mathlib.Core.Path.{_≡_, refl, sym, ap, _∙_}
+use native.Mathlib.Numerals.{add-one}
 use native.Mathlib.Omega.{arith}
 use lib.ListN.{length, take, drop, length-append, length-drop}
-use lib.Seq.{take-append-le, drop-append-le}
+use lib.Seq.{take-append-le, drop-append-le, drop-drop}
 use Rattle.members.proofs.Tests.{Fails, either, neither, refuted, equal, unequal}
 use Rattle.algorithm.specs.Table.{Table, broken, server, mark}
 use Rattle.algorithm.specs.Refusals.{Action, unknown, elect, reconfigure, send, spread, write, fetch, rollBack, commit, actionOf, after}
-use Rattle.algorithm.specs.Run.{step, pieces, pieceCount, Ran, play, run}
+use Rattle.algorithm.specs.Run.{step, pieces, pieceCount, Ran, play, runTo, run}
 use Rattle.algorithm.proofs.Choice.{put-elim}
 use Rattle.algorithm.proofs.Lists.{nth-replace}
 use Rattle.algorithm.proofs.Refused.{Taken, outcome}
@@ -54,6 +55,23 @@ run-append t k p q e =
     let c : pieceCount p ≡ k = omega arith in
     let d : pieceCount (p ++ q) ≡ k + pieceCount q = omega (arith, length-append p q) in
     rw (pieces-append k (pieceCount q) (pieceCount (p ++ q)) p q e d, c) (play-append t (pieces k p) (pieces (pieceCount q) q))
+
+-- one piece more
+pieces-next : (k : ℕ) (p : List ℕ) → pieces (suc k) p ≡ pieces k p ++ (take 8 (drop (8 * k) p) ∷ [])
+unfolding pieces
+pieces-next zero p = refl
+pieces-next (suc k) p =
+    let n : 8 * suc k ≡ 8 + 8 * k = omega arith in
+    let e : drop (8 * suc k) p ≡ drop (8 * k) (drop 8 p) = ap (λ (n : ℕ). drop n p) n ∙ sym (drop-drop (8 * k) 8 p) in
+    rw e (ap (λ l. take 8 p ∷ l) (pieces-next k (drop 8 p)))
+
+-- what a step adds to a run
+pub stepped : Ran → List ℕ → Ran
+stepped r a = joined r (record { replies = step (r .table) a .number ∷ []; table = step (r .table) a .table })
+
+pub run-next : (k : ℕ) (t : Table) (p : List ℕ) → runTo (k + 1) t p ≡ stepped (runTo k t p) (take 8 (drop (8 * k) p))
+unfolding play stepped
+run-next k t p = rw (add-one k, pieces-next k p) (play-append t (pieces k p) (take 8 (drop (8 * k) p) ∷ []))
 
 -- ---- marks
 
