@@ -10,7 +10,7 @@ use lib.ListN.{getD}
 use mir.Facts.{eqb-yes}
 use Rattle.algorithm.specs.Table.{Table, server, primary, termAt, mark, fresh}
 use Rattle.algorithm.specs.Comparisons.{held}
-use Rattle.algorithm.specs.Run.{step, pieces, pieceCount, play, runTo, run}
+use Rattle.algorithm.specs.Run.{step, pieces, play, runTo}
 use Rattle.algorithm.specs.Demand.{wonBy, wonAlong, termsWon, Rising}
 use Rattle.algorithm.specs.Logless as logless
 use Rattle.algorithm.specs.Logless.{core, Moves, none, then}
@@ -45,42 +45,41 @@ never-given t safe (a ∷ p) (suc k) z = never-given (step t a .table) (safe-ste
 
 -- ---- runs from a fresh table
 
-module _ (n M : ℕ) (plan : List ℕ) where
+-- After the first k actions of a plan. The whole plan has `pieceCount plan` of them.
+module _ (n M : ℕ) (plan : List ℕ) (k : ℕ) where
+  abbrev pub end : Table
+  end = runTo k (fresh n M) plan .table
+
   -- the terms won rise, so that no term is won by two elections
-  pub terms-rise : Rising 0 (termsWon (fresh n M) plan)
-  terms-rise = wins-rise (core-fresh n M) (moves (fresh n M) (pieces (pieceCount plan) plan))
+  pub terms-rise : Rising 0 (termsWon k (fresh n M) plan)
+  terms-rise = wins-rise (core-fresh n M) (moves (fresh n M) (pieces k plan))
 
   -- refusal 24 is never given
-  pub never-24 : (k : ℕ) → getD (run (fresh n M) plan .replies) k 0 ≢ 24
-  never-24 = never-given (fresh n M) (safe-fresh n M) (pieces (pieceCount plan) plan)
+  pub never-24 : (j : ℕ) → getD (runTo k (fresh n M) plan .replies) j 0 ≢ 24
+  never-24 = never-given (fresh n M) (safe-fresh n M) (pieces k plan)
 
-  module _ (k : ℕ) where
-    -- the table after the first k actions of the plan
-    abbrev pub end : Table
-    end = runTo k (fresh n M) plan .table
+  safe : Safe (view end)
+  safe = play-keeps (λ t. Safe (view t)) safe-step (fresh n M) (pieces k plan) (safe-fresh n M)
 
-    safe : Safe (view end)
-    safe = play-keeps (λ t. Safe (view t)) safe-step (fresh n M) (pieces k plan) (safe-fresh n M)
+  leads : (i : ℕ) → T (primary (server end i)) → Leads (core end) i (server end i .config)
+  leads i p = record { primary = eqb-yes p; is = refl }
 
-    leads : (i : ℕ) → T (primary (server end i)) → Leads (core end) i (server end i .config)
-    leads i p = record { primary = eqb-yes p; is = refl }
+  -- every primary holds, at its position, each entry marked with a term not above its own
+  pub primaries-complete : (i p : ℕ) → T (primary (server end i)) → 0 < mark end p → mark end p ≤ server end i .term
+      → T (held (server end i .log) p (mark end p))
+  primaries-complete i p leader marked below =
+      is-held (safe .logs .leads (leads i leader) .complete (record { is = refl; positive = marked }) (omega (arith, safe .configs .own (leads i leader)))) .yes
 
-    -- every primary holds, at its position, each entry marked with a term not above its own
-    pub primaries-complete : (i p : ℕ) → T (primary (server end i)) → 0 < mark end p → mark end p ≤ server end i .term
-        → T (held (server end i .log) p (mark end p))
-    primaries-complete i p leader marked below =
-        is-held (safe .logs .leads (leads i leader) .complete (record { is = refl; positive = marked }) (omega (arith, safe .configs .own (leads i leader)))) .yes
+  -- a term has one primary at most
+  pub one-primary : (i j : ℕ) → T (primary (server end i)) → T (primary (server end j))
+      → server end i .term ≡ server end j .term → i ≡ j
+  one-primary i j p q e =
+      safe .configs .sole (leads i p) (leads j q) (safe .configs .own (leads i p) ∙ e ∙ sym (safe .configs .own (leads j q)))
 
-    -- a term has one primary at most
-    pub one-primary : (i j : ℕ) → T (primary (server end i)) → T (primary (server end j))
-        → server end i .term ≡ server end j .term → i ≡ j
-    one-primary i j p q e =
-        safe .configs .sole (leads i p) (leads j q) (safe .configs .own (leads i p) ∙ e ∙ sym (safe .configs .own (leads j q)))
-
-    -- two logs that have one term at a position agree up to there
-    pub logs-match : (i j p u : ℕ) → T (held (server end i .log) p u) → T (held (server end j .log) p u)
-        → (r : ℕ) → r ≤ p → termAt (server end i .log) r ≡ termAt (server end j .log) r
-    logs-match i j p u h g =
-        let a : Holds (server end i .log) p u = held-is (record { yes = h }) in
-        let b : Holds (server end j .log) p u = held-is (record { yes = g }) in
-        safe .logs .agree {m = i} {n = j} a b (omega arith)
+  -- two logs that have one term at a position agree up to there
+  pub logs-match : (i j p u : ℕ) → T (held (server end i .log) p u) → T (held (server end j .log) p u)
+      → (r : ℕ) → r ≤ p → termAt (server end i .log) r ≡ termAt (server end j .log) r
+  logs-match i j p u h g =
+      let a : Holds (server end i .log) p u = held-is (record { yes = h }) in
+      let b : Holds (server end j .log) p u = held-is (record { yes = g }) in
+      safe .logs .agree {m = i} {n = j} a b (omega arith)

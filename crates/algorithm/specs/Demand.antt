@@ -5,7 +5,7 @@ use mathlib.Core.List.{List, [], _∷_, _++_}
 use lib.Dec.{eqb}
 use Rattle.algorithm.specs.Table.{Table, server}
 use Rattle.algorithm.specs.Refusals.{Action, unknown, elect, reconfigure, send, spread, write, fetch, rollBack, commit, actionOf}
-use Rattle.algorithm.specs.Run.{step, pieces, pieceCount}
+use Rattle.algorithm.specs.Run.{step, pieces}
 
 -- the term that an action wins if it is taken: an election's
 abbrev pub stakes : Table → Action → List ℕ
@@ -27,9 +27,9 @@ unfoldable pub wonAlong : Table → List (List ℕ) → List ℕ
 wonAlong t [] = []
 wonAlong t (a ∷ rest) = wonBy t a ++ wonAlong (step t a .table) rest
 
--- the terms won along the run of a plan, in order
-abbrev pub termsWon : Table → List ℕ → List ℕ
-termsWon t p = wonAlong t (pieces (pieceCount p) p)
+-- the terms won by the first k actions of a plan, in order
+abbrev pub termsWon : ℕ → Table → List ℕ → List ℕ
+termsWon k t p = wonAlong t (pieces k p)
 
 -- b < t₁ < t₂ < ..
 abbrev pub Rising : ℕ → List ℕ → Type 0
