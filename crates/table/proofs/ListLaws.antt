@@ -1,0 +1,48 @@
+-- Laws of lists: counted from 1, as the table's are, and with a part in the middle. Assumes nothing.
+use Prim.Native.Nat.{ℕ, zero, suc, _+_, _≤_, _<_}
+use native.Mathlib.Nat.{zero-add, suc-add}
+use native.Mathlib.Omega.{arith}
+use mathlib.Core.Path.{_≡_, refl, ap, _∙_}
+use mathlib.Core.List.{List, [], _∷_, _++_}
+use lib.ListN.{length, getD, set, length-set, List·getD-append}
+use lib.Seq.{getD-append-add, getD-set-same, set-append-left, set-getD, set-set}
+use Rattle.algorithm.specs.Table.{nth, replace}
+
+-- ---- counted from 1
+
+module _ {A : Type 0} where
+  pub length-replace : (l : List A) (i : ℕ) (a : A) → length (replace l i a) ≡ length l
+  unfolding replace
+  length-replace l zero a = refl
+  length-replace l (suc k) a = length-set l k a
+
+  -- putting back the element that is there changes nothing
+  pub replace-nth : (l : List A) (i : ℕ) (d : A) → replace l i (nth l i d) ≡ l
+  unfolding replace nth
+  replace-nth l zero d = refl
+  replace-nth l (suc k) d = set-getD l k d
+
+  pub nth-replace : (l : List A) (i : ℕ) (a d : A) → 1 ≤ i → i ≤ length l → nth (replace l i a) i d ≡ a
+  unfolding replace nth
+  nth-replace l zero a d h k = absurd (omega arith)
+  nth-replace l (suc j) a d h k = getD-set-same l j a d k
+
+  pub replace-replace : (l : List A) (i : ℕ) (a b : A) → replace (replace l i a) i b ≡ replace l i b
+  unfolding replace
+  replace-replace l zero a b = refl
+  replace-replace l (suc j) a b = set-set l j a b
+
+-- ---- a part in the middle, at a place
+
+set-past : (xs ys : List ℕ) (n v : ℕ) → set (xs ++ ys) (length xs + n) v ≡ xs ++ set ys n v
+set-past [] ys n v = ap (λ (k : ℕ). set ys k v) (zero-add n)
+set-past (x ∷ xs) ys n v =
+    ap (λ (k : ℕ). set (x ∷ (xs ++ ys)) k v) (suc-add (length xs) n) ∙ ap (λ (l : List ℕ). x ∷ l) (set-past xs ys n v)
+
+pub get-mid : (xs r ys : List ℕ) (at n : ℕ) → length xs ≡ at → n < length r → getD (xs ++ (r ++ ys)) (at + n) 0 ≡ getD r n 0
+get-mid xs r ys at n e h = rw (← e) (getD-append-add xs (r ++ ys) n 0 ∙ List·getD-append r ys 0 n h)
+
+pub set-mid : (xs r ys : List ℕ) (at n v : ℕ) → length xs ≡ at → n < length r
+    → set (xs ++ (r ++ ys)) (at + n) v ≡ xs ++ (set r n v ++ ys)
+set-mid xs r ys at n v e h =
+    rw (← e) (set-past xs (r ++ ys) n v ∙ ap (λ (l : List ℕ). xs ++ l) (set-append-left r ys n v h))

@@ -1,0 +1,213 @@
+-- What the functions on one row read and put. Assumes nothing.
+use Prim.Native.Nat.{ℕ, zero, suc, _+_, _-_, _*_, _≤_, _<_}
+use native.Mathlib.Nat.{zero-add}
+use native.Mathlib.Numerals.{add-one, sub-one}
+use native.Mathlib.Omega.{arith}
+use mathlib.Core.Path.{_≡_, refl, ap, sym, _∙_}
+use mathlib.Core.List.{List, [], _∷_, _++_}
+use lib.ListN.{length, getD, set, take, length-append, length-take, List·getD-map}
+use lib.Seq.{length-take-le}
+use Rattle.algorithm.specs.Table.{Entry, Log, Server, Table, nth, replace, count, server, termAt, mark}
+use Rattle.algorithm.specs.Comparisons.{last}
+use Rattle.algorithm.specs.Actions.{withConfig}
+use Rattle.table.specs.declared.rows.Row.{Row}
+use Rattle.table.specs.Words.{words, Put}
+use Rattle.table.specs.Layout.{padded, terms, row, head, layout, tableIn}
+use Rattle.table.specs.Slice.{Holds, Held, Became, Within, changed, withRole, withTerm, withEntry, withoutLast, withMark, seen}
+use Rattle.table.proofs.ListLaws.{length-replace}
+use Rattle.table.proofs.LayoutLaws.{marks-in}
+use Rattle.table.proofs.HeldLaws.{its-table, held, its-room, Open, then, frame, open-row, close-row, read, opened, closed}
+
+-- ---- the number of servers
+
+first-word : (t : Table) → getD (layout t) 0 0 ≡ count t
+unfolding layout
+first-word t = refl
+
+pub count-read : (b : List ℕ) (r : ℕ) → Held b → r ≡ getD (words b) 0 0 → r ≡ count (tableIn b)
+count-read b r h e = e ∙ ap (λ (c : List ℕ). getD c 0 0) (h .laid) ∙ first-word (tableIn b)
+
+pub count-small : (b : List ℕ) (r : ℕ) → Held b → r ≡ getD (words b) 0 0 → r < 256
+count-small b r h e = omega (arith, count-read b r h e, h .shaped .few)
+
+-- ---- a log in its room
+
+past-six : (p : ℕ) → 5 + suc p ≡ suc (suc (suc (suc (suc (suc p)))))
+past-six p = omega arith
+
+get-padded : (k : ℕ) (l : List ℕ) (p : ℕ) → p < k → getD (padded k l) p 0 ≡ getD l p 0
+unfolding padded
+get-padded zero l p h = absurd (omega arith)
+get-padded (suc k) [] zero h = refl
+get-padded (suc k) [] (suc p) h = get-padded k [] p (omega arith)
+get-padded (suc k) (x ∷ l) zero h = refl
+get-padded (suc k) (x ∷ l) (suc p) h = get-padded k l p (omega arith)
+
+-- the entry at a position of the log is the word so far past the length
+pub entry-read : (s : Server) (p r : ℕ) → 1 ≤ p → p ≤ 64 → r ≡ getD (row s) (5 + p) 0 → r ≡ termAt (s .log) p
+unfolding nth
+entry-read s zero r h l e = absurd (omega arith)
+entry-read s (suc p) r h l e =
+    e
+    ∙ ap (λ (n : ℕ). getD (row s) n 0) (past-six p)
+    ∙ get-padded 64 (terms (s .log)) p (omega arith)
+    ∙ List·getD-map (λ (e : Entry). e .term) (s .log) p (record { term = 0 })
+
+pub mark-read : (b : List ℕ) (p r : ℕ) → Held b → 1 ≤ p → p ≤ 64 → r ≡ getD (words b) (5 + p) 0 → r ≡ mark (tableIn b) p
+unfolding nth
+mark-read b zero r h k l e = absurd (omega arith)
+mark-read b (suc p) r h k l e =
+    let t = tableIn b in
+    e
+    ∙ ap (λ (n : ℕ). getD (words b) n 0) (sym (zero-add (5 + suc p)))
+    ∙ read (marks-in t) (5 + suc p) (opened (marks-in t) b (t .marks) (h .sized) (h .laid)) (omega arith)
+    ∙ ap (λ (n : ℕ). getD (head (count t) (t .marks)) n 0) (past-six p)
+    ∙ get-padded 64 (t .marks) p (omega arith)
+
+-- ---- a row by value
+
+none : (l : Log) → 0 ≡ termAt l 0
+unfolding nth
+none l = refl
+
+-- the word so far past the length as the log is long is its last entry; of an empty log that is the length itself, 0
+last-read : (s : Server) (n r : ℕ) → n ≡ length (s .log) → n ≤ 64 → r ≡ getD (row s) (5 + n) 0 → r ≡ last (s .log)
+last-read s n r e l h = rw (← e) (go n e l h)
+  where
+    go : (n : ℕ) → n ≡ length (s .log) → n ≤ 64 → r ≡ getD (row s) (5 + n) 0 → r ≡ termAt (s .log) n
+    go zero e l h = h ∙ sym e ∙ none (s .log)
+    go (suc p) e l h = entry-read s (suc p) r (omega arith) l h
+
+pub row-seen : (s : Server) (r t m v c l e : ℕ) → r ≡ s .role → t ≡ s .term → m ≡ s .config .set → v ≡ s .config .version
+    → c ≡ s .config .term → l ≡ length (s .log) → l ≤ 64 → e ≡ getD (row s) (5 + l) 0
+    → _≡_ {A = Row}
+    (record {
+      role = r;
+      term = record { 0 = t };
+      set = m;
+      version = record { 0 = v };
+      config = record { 0 = c };
+      length = record { 0 = l };
+      last = record { 0 = e };
+    })
+    (seen s)
+row-seen s r t m v c l e er et em ev ec el short ee =
+    let end : e ≡ last (s .log) = last-read s l e el short ee in
+    λ d.
+    record {
+      role = er d;
+      term = record { 0 = et d };
+      set = em d;
+      version = record { 0 = ev d };
+      config = record { 0 = ec d };
+      length = record { 0 = el d };
+      last = record { 0 = end d };
+    }
+
+pub set-small : (b : List ℕ) (i r : ℕ) → Held b → r ≡ server (tableIn b) i .config .set → r < 65536
+set-small b i r h e = omega (arith, e, its-room i h .small)
+
+pub log-small : (b : List ℕ) (i r : ℕ) → Held b → r ≡ length (server (tableIn b) i .log) → r < 256
+log-small b i r h e = omega (arith, e, its-room i h .short)
+
+pub log-short : (b : List ℕ) (i r : ℕ) → Held b → r ≡ length (server (tableIn b) i .log) → r ≤ 64
+log-short b i r h e = omega (arith, e, its-room i h .short)
+
+-- ---- an entry more, and one less
+
+push-log : (k : ℕ) (l : Log) (v : ℕ) → length l < k → set (padded k (terms l)) (length l) v ≡ padded k (terms (l ++ (record { term = v } ∷ [])))
+unfolding padded
+push-log zero l v h = absurd (omega arith)
+push-log (suc k) [] v h = refl
+push-log (suc k) (e ∷ l) v h = ap (λ (y : List ℕ). e .term ∷ y) (push-log k l v (omega arith))
+
+pop-log : (k : ℕ) (l : Log) (n : ℕ) → length l ≡ suc n → n < k → set (padded k (terms l)) n 0 ≡ padded k (terms (take n l))
+unfolding padded
+pop-log k [] n e h = absurd (omega arith)
+pop-log zero (x ∷ l) n e h = absurd (omega arith)
+pop-log (suc k) (x ∷ []) zero e h = refl
+pop-log (suc k) (x ∷ []) (suc n) e h = absurd (omega arith)
+pop-log (suc k) (x ∷ y ∷ l) zero e h = absurd (omega arith)
+pop-log (suc k) (x ∷ y ∷ l) (suc n) e h = ap (λ (z : List ℕ). x .term ∷ z) (pop-log k (y ∷ l) n (omega arith) (omega arith))
+
+push-row : (s : Server) (n v : ℕ) → n ≡ length (s .log) → n < 64
+    → set (set (row s) 5 (n + 1)) (5 + (n + 1)) v ≡ row (withEntry v s)
+push-row s n v e h =
+    rw (e, add-one, past-six (length (s .log)), push-log 64 (s .log) v (omega arith), length-append (s .log) (record { term = v } ∷ []), add-one)
+
+pop-row : (s : Server) (n : ℕ) → n ≡ length (s .log) → 1 ≤ n → n ≤ 64
+    → set (set (row s) 5 (n - 1)) (5 + n) 0 ≡ row (withoutLast s)
+pop-row s zero e h l = absurd (omega arith)
+pop-row s (suc n) e h l =
+    rw (← e, sub-one, past-six n, pop-log 64 (s .log) n (sym e) (omega arith), length-take-le n (s .log) (omega arith))
+
+-- ---- figures put
+
+module _ {b : List ℕ} {i : ℕ} (h : Held b) (w : Within b i) where
+  pub role-put : (b' : List ℕ) (v : ℕ) → Put b b' (70 * i + 0) v → Became b b' (changed (tableIn b) i (withRole v))
+  role-put b' v p = close-row h w _ (its-room i h) (then (frame h w) (open-row h w) (omega arith) p)
+
+  pub term-put : (b' : List ℕ) (v : ℕ) → Put b b' (70 * i + 1) v → Became b b' (changed (tableIn b) i (withTerm v))
+  term-put b' v p = close-row h w _ (its-room i h) (then (frame h w) (open-row h w) (omega arith) p)
+
+  pub config-put : (b₁ b₂ b₃ : List ℕ) (m v c : ℕ) → m < 65536 → Put b b₁ (70 * i + 2) m → Put b₁ b₂ (70 * i + 3) v → Put b₂ b₃ (70 * i + 4) c
+      → Became b b₃ (changed (tableIn b) i (withConfig (record { set = m; version = v; term = c })))
+  config-put b₁ b₂ b₃ m v c l p q u =
+      let f = frame h w in
+      close-row h w _ (record { short = its-room i h .short; small = l })
+      (then f (then f (then f (open-row h w) (omega arith) p) (omega arith) q) (omega arith) u)
+
+  pub push-put : (b₁ b₂ : List ℕ) (n v : ℕ) → n ≡ length (server (tableIn b) i .log) → length (server (tableIn b) i .log) < 64
+      → Put b b₁ (70 * i + 5) (n + 1) → Put b₁ b₂ (70 * i + (5 + (n + 1))) v → Became b b₂ (changed (tableIn b) i (withEntry v))
+  push-put b₁ b₂ n v e l p q =
+      let s = server (tableIn b) i in
+      let f = frame h w in
+      close-row h w _
+      (record { short = omega (arith, length-append (s .log) (record { term = v } ∷ [])); small = its-room i h .small })
+      (rw (push-row s n v e (omega arith)) at (then f (then f (open-row h w) (omega arith) p) (omega arith) q))
+
+  pub pop-put : (b₁ b₂ : List ℕ) (n : ℕ) → n ≡ length (server (tableIn b) i .log) → 1 ≤ length (server (tableIn b) i .log)
+      → Put b b₁ (70 * i + 5) (n - 1) → Put b₁ b₂ (70 * i + (5 + n)) 0 → Became b b₂ (changed (tableIn b) i withoutLast)
+  pop-put b₁ b₂ n e l p q =
+      let s = server (tableIn b) i in
+      let f = frame h w in
+      let r = its-room i h in
+      close-row h w _
+      (record { short = omega (arith, length-take (length (s .log) - 1) (s .log), r .short); small = r .small })
+      (rw (pop-row s n e (omega arith) (omega (arith, r .short))) at
+      (then f (then f (open-row h w) (omega arith) p) (omega (arith, r .short)) q))
+
+-- ---- a mark put
+
+set-padded : (k : ℕ) (l : List ℕ) (p v : ℕ) → p < length l → set (padded k l) p v ≡ padded k (set l p v)
+unfolding padded
+set-padded zero l p v h = refl
+set-padded (suc k) [] p v h = absurd (omega arith)
+set-padded (suc k) (x ∷ l) zero v h = refl
+set-padded (suc k) (x ∷ l) (suc p) v h = ap (λ (y : List ℕ). x ∷ y) (set-padded k l p v (omega arith))
+
+mark-row : (n : ℕ) (ms : List ℕ) (p v : ℕ) → 1 ≤ p → p ≤ length ms → set (head n ms) (5 + p) v ≡ head n (replace ms p v)
+unfolding replace
+mark-row n ms zero v k l = absurd (omega arith)
+mark-row n ms (suc p) v k l = rw (past-six p, set-padded 64 ms p v (omega arith))
+
+pub mark-put : (b b' : List ℕ) (p v : ℕ) → Held b → 1 ≤ p → p ≤ 64 → Put b b' (5 + p) v → Became b b' (withMark (tableIn b) p v)
+mark-put b b' p v h k l u = record { holds = holds; held = held holds; same = ap count (its-table holds) }
+  where
+    t : Table
+    t = tableIn b
+
+    from : Open b (marks-in t) (head (count t) (t .marks))
+    from = opened (marks-in t) b (t .marks) (h .sized) (h .laid)
+
+    to : Open b' (marks-in t) (head (count t) (replace (t .marks) p v))
+    to = rw (mark-row (count t) (t .marks) p v k (omega (arith, h .shaped .marked))) at (then (marks-in t) from (omega arith) (rw (← zero-add (5 + p)) at u))
+
+    holds : Holds b' (withMark t p v)
+    holds =
+        record {
+          sized = to .sized;
+          laid = closed (marks-in t) (replace (t .marks) p v) to;
+          shaped =
+              record { few = h .shaped .few; roomy = h .shaped .roomy; marked = length-replace (t .marks) p v ∙ h .shaped .marked };
+        }

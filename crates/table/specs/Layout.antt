@@ -1,0 +1,83 @@
+-- A table in words: 17 rows of 70. Row 0 has the number of servers, five 0 and the 64 marks; row s has server s, and 0 where there is none.
+-- Assumes nothing.
+use Prim.Native.Nat.{ℕ, zero, suc}
+use mathlib.Core.Bool.{Bool, true, false, not, _&&_}
+use mathlib.Core.List.{List, [], _∷_, _++_, map}
+use lib.Dec.{eqb}
+use lib.ListN.{length, getD, take, drop, replicate}
+use Rattle.algorithm.specs.Table.{Entry, Log, Server, Table, count, broken}
+use Rattle.table.specs.Words.{words, bytes}
+
+-- ---- from a table to bytes
+
+-- l with 0 after it, k long
+unfoldable pub padded : ℕ → List ℕ → List ℕ
+padded zero l = []
+padded (suc k) [] = 0 ∷ padded k []
+padded (suc k) (x ∷ l) = x ∷ padded k l
+
+-- a log as numbers
+abbrev pub terms : Log → List ℕ
+terms l = map (λ (e : Entry). e .term) l
+
+abbrev pub row : Server → List ℕ
+row s =
+    s .role ∷ s .term ∷ s .config .set ∷ s .config .version ∷ s .config .term ∷ length (s .log) ∷ padded 64 (terms (s .log))
+
+-- row 0, of n servers and the marks
+abbrev pub head : ℕ → List ℕ → List ℕ
+head n ms = n ∷ 0 ∷ 0 ∷ 0 ∷ 0 ∷ 0 ∷ padded 64 ms
+
+-- k rows: those of the servers, then rows of 0
+unfoldable pub rows : ℕ → List Server → List ℕ
+rows zero ss = []
+rows (suc k) [] = replicate 70 0 ++ rows k []
+rows (suc k) (s ∷ ss) = row s ++ rows k ss
+
+unfoldable pub layout : Table → List ℕ
+layout t = head (count t) (t .marks) ++ rows 16 (t .servers)
+
+-- the bytes of a table
+unfoldable pub stored : Table → List ℕ
+stored t = bytes (layout t)
+
+-- ---- from bytes to a table
+
+-- numbers as a log
+abbrev pub entries : List ℕ → Log
+entries l = map (λ v. record { term = v }) l
+
+-- the server whose row the words begin with
+unfoldable pub serverOf : List ℕ → Server
+serverOf d =
+    record {
+      role = getD d 0 0;
+      term = getD d 1 0;
+      config = record { set = getD d 2 0; version = getD d 3 0; term = getD d 4 0 };
+      log = entries (take (getD d 5 0) (drop 6 d));
+    }
+
+-- the servers of the first k rows
+unfoldable pub serversOf : ℕ → List ℕ → List Server
+serversOf zero d = []
+serversOf (suc k) d = serverOf d ∷ serversOf k (drop 70 d)
+
+unfoldable pub tableOf : List ℕ → Table
+tableOf c = record { servers = serversOf (getD c 0 0) (drop 70 c); marks = take 64 (drop 6 c) }
+
+-- the table in a slice
+unfoldable pub tableIn : List ℕ → Table
+tableIn b = tableOf (words b)
+
+-- ---- a slice that is not broken
+
+-- the two lists are equal
+unfoldable pub same : List ℕ → List ℕ → Bool
+same [] [] = true
+same [] (y ∷ m) = false
+same (x ∷ l) [] = false
+same (x ∷ l) (y ∷ m) = eqb x y && same l m
+
+-- the slice has the length of a table, is the bytes of the table in it, and that table breaks no rule
+unfoldable pub whole : List ℕ → Bool
+whole b = eqb (length b) 4760 && same b (stored (tableIn b)) && not (broken (tableIn b))

@@ -1,0 +1,88 @@
+-- What the functions ask and promise of a slice that holds a table. Assumes nothing.
+use Prim.Native.Nat.{ℕ, _-_, _≤_, _<_}
+use mathlib.Core.Path.{_≡_}
+use mathlib.Core.List.{List, [], _∷_, _++_}
+use lib.ListN.{length, take, replicate}
+use Rattle.algorithm.specs.Table.{Server, Table, absent, positions, replace, count, server}
+use Rattle.algorithm.specs.Actions.{withServer, withLog}
+use Rattle.algorithm.specs.Comparisons.{last}
+use Rattle.table.specs.declared.rows.Row.{Row}
+use Rattle.table.specs.Words.{words}
+use Rattle.table.specs.Layout.{layout, tableIn}
+
+-- a log of n entries and the set m have room in a row
+pub record Room (n m : ℕ) : Type 0 where
+  pub short : n ≤ 64
+  pub small : m < 65536
+
+abbrev pub Roomy : Server → Type 0
+Roomy s = Room (length (s .log)) (s .config .set)
+
+abbrev pub AllRoomy : List Server → Type 0
+AllRoomy [] = Unit {0}
+AllRoomy (s ∷ ss) = Roomy s × AllRoomy ss
+
+-- a table that has room in the slice
+pub record Shaped (t : Table) : Type 0 where
+  pub few : count t ≤ 16
+  pub roomy : AllRoomy (t .servers)
+  pub marked : length (t .marks) ≡ 64
+
+-- the slice holds the table
+pub record Holds (b : List ℕ) (t : Table) : Type 0 where
+  pub sized : length b ≡ 4760
+  pub laid : words b ≡ layout t
+  pub shaped : Shaped t
+
+-- the slice holds a table
+abbrev pub Held : List ℕ → Type 0
+Held b = Holds b (tableIn b)
+
+-- the slice b has become b', which holds t; so it holds a table still, of as many servers
+pub record Became (b b' : List ℕ) (t : Table) : Type 0 where
+  pub holds : Holds b' t
+  pub held : Held b'
+  pub same : count (tableIn b') ≡ count (tableIn b)
+
+-- s is a server of the table in b
+pub record Within (b : List ℕ) (s : ℕ) : Type 0 where
+  pub some : 1 ≤ s
+  pub known : s ≤ count (tableIn b)
+
+-- the table with server i changed
+abbrev pub changed : Table → ℕ → (Server → Server) → Table
+changed t i f = withServer t i (f (server t i))
+
+-- the ways that a server changes, beside algorithm's own
+abbrev pub withRole : ℕ → Server → Server
+withRole v s = record { role = v; term = s .term; config = s .config; log = s .log }
+
+abbrev pub withTerm : ℕ → Server → Server
+withTerm v s = record { role = s .role; term = v; config = s .config; log = s .log }
+
+abbrev pub withEntry : ℕ → Server → Server
+withEntry v s = withLog (s .log ++ (record { term = v } ∷ [])) s
+
+abbrev pub withoutLast : Server → Server
+withoutLast s = withLog (take (length (s .log) - 1) (s .log)) s
+
+-- the table with another mark at a position
+abbrev pub withMark : Table → ℕ → ℕ → Table
+withMark t p v = record { servers = t .servers; marks = replace (t .marks) p v }
+
+-- n servers of which nothing is known yet, and no marks
+abbrev pub blank : ℕ → Table
+blank n = record { servers = replicate n absent; marks = replicate positions 0 }
+
+-- a server's figures, as the code reads them at once: of its log the length and the last entry
+abbrev pub seen : Server → Row
+seen s =
+    record {
+      role = s .role;
+      term = record { 0 = s .term };
+      set = s .config .set;
+      version = record { 0 = s .config .version };
+      config = record { 0 = s .config .term };
+      length = record { 0 = lib.ListN.length (s .log) };
+      last = record { 0 = Rattle.algorithm.specs.Comparisons.last (s .log) };
+    }

@@ -1,0 +1,131 @@
+// Whether a slice is a whole table. Every word is tested and the answers are joined without branches, so that the loops can run on several words at once.
+ghost use mathlib.Core.Path.{_≡_};
+ghost use mathlib.Core.List.{[]};
+ghost use Prim.Native.Nat.{_+_, _*_, _≤_};
+ghost use lib.ListN.{length, drop};
+ghost use Rattle.members.specs.Members.{within};
+ghost use Rattle.algorithm.specs.Table.{every, soundServer};
+ghost use Rattle.algorithm.specs.Actions.{withLog};
+ghost use Rattle.table.specs.Words.{words};
+ghost use Rattle.table.specs.Layout.{serverOf, whole};
+ghost use Rattle.table.specs.Check.{part, between, soundRow, soundRows, soundWords};
+use crate::rows::CONFIG;
+use crate::rows::LENGTH;
+use crate::rows::LOG;
+use crate::rows::ROLE;
+use crate::rows::ROW;
+use crate::rows::SET;
+use crate::rows::TERM;
+use crate::rows::VERSION;
+use crate::words::word;
+use members::is_within;
+
+// The largest term and the largest version.
+const CEILING: u32 = 1_000_000_000;
+
+// Each of the n words from word k is from low to high.
+fn all_between(t: &[u8], k: usize, n: usize, low: u32, high: u32) -> bool
+    requires { ⌜ 4 * (k + n) ≤ length (now t) ⌝ }
+    ensures { λ r. ⌜ r ≡ every (between low high) (part (words (now (t .entry))) k n) ⌝ }
+{
+    let mut ok = true;
+    let mut i: usize = 0;
+    while i < n {
+        let v = word(t, k + i);
+        ok = ok & ((low <= v) & (v <= high));
+        i += 1;
+    }
+    ok
+}
+
+// A set that has a bit above 16 has one above n.
+fn set_within(set: u32, n: u8) -> bool
+    requires { ⌜ n ≤ 16 ⌝ }
+    ensures { λ r. ⌜ r ≡ within set n ⌝ }
+{
+    if 65535 < set {
+        return false;
+    }
+    is_within(set as u16, n)
+}
+
+// The figures of server s of n are sound.
+fn figures_sound(t: &[u8], n: u8, s: usize) -> bool
+    requires { ⌜ (length (now t) ≡ 4760) × (s ≤ 16) ⌝ }
+    requires { ⌜ n ≤ 16 ⌝ }
+    ensures { λ r. ⌜ r ≡ soundServer n (withLog [] (serverOf (drop (70 * s) (words (now (t .entry)))))) ⌝ }
+{
+    let at = ROW * s;
+    let role = word(t, at + ROLE);
+    let term = word(t, at + TERM);
+    let set = word(t, at + SET);
+    let version = word(t, at + VERSION);
+    let config = word(t, at + CONFIG);
+    let role_sound = (role == 1) & (1 <= term) | (role == 0);
+    let config_sound = set_within(set, n)
+        & (1 <= version)
+        & (version <= CEILING)
+        & (config <= CEILING);
+    role_sound & (term <= CEILING) & config_sound
+}
+
+fn row_sound(t: &[u8], n: u8, s: usize) -> bool
+    requires { ⌜ (length (now t) ≡ 4760) × (s ≤ 16) ⌝ }
+    requires { ⌜ n ≤ 16 ⌝ }
+    ensures { λ r. ⌜ r ≡ soundRow n (drop (70 * s) (words (now (t .entry)))) ⌝ }
+{
+    let at = ROW * s;
+    let length = word(t, at + LENGTH);
+    if 64 < length {
+        return false;
+    }
+    let k = length as usize;
+    let figures = figures_sound(t, n, s);
+    let entries = all_between(t, at + LOG, k, 1, CEILING);
+    let beyond = all_between(t, at + (LOG + k), 64 - k, 0, 0);
+    figures & entries & beyond
+}
+
+fn rows_sound(t: &[u8], n: u8) -> bool
+    requires { ⌜ length (now t) ≡ 4760 ⌝ }
+    requires { ⌜ n ≤ 16 ⌝ }
+    ensures { λ r. ⌜ r ≡ soundRows n n (drop 70 (words (now (t .entry)))) ⌝ }
+{
+    let mut ok = true;
+    let mut k: u8 = 0;
+    while k < n {
+        k += 1;
+        ok = ok & row_sound(t, n, k as usize);
+    }
+    ok
+}
+
+fn words_sound(t: &[u8], n: u8) -> bool
+    requires { ⌜ length (now t) ≡ 4760 ⌝ }
+    requires { ⌜ n ≤ 16 ⌝ }
+    ensures { λ r. ⌜ r ≡ soundWords n (words (now (t .entry))) ⌝ }
+{
+    let used = ROW * n as usize;
+    let spare = all_between(t, 1, 5, 0, 0);
+    let marks = all_between(t, LOG, 64, 0, CEILING);
+    let rows = rows_sound(t, n);
+    let beyond = all_between(t, used + ROW, 1120 - used, 0, 0);
+    spare & marks & rows & beyond
+}
+
+// The slice is a table that breaks no rule.
+pub fn is_whole(t: &[u8]) -> bool
+    ensures { λ r. ⌜ r ≡ whole (now (t .entry)) ⌝ }
+{
+    if t.len() != 4760 {
+        return false;
+    }
+    let n = word(t, 0);
+    if n == 0 {
+        return false;
+    }
+    if 16 < n {
+        return false;
+    }
+    words_sound(t, n as u8)
+}

@@ -1,0 +1,5 @@
+// A table in a lent slice of 4,760 bytes, worked on in place: 17 rows of 70 words (specs/Layout.antt).
+pub mod check;
+pub mod fill;
+pub mod rows;
+pub mod words;

@@ -1,0 +1,170 @@
+// The rows of a table: a server's figures read and put, and the marks.
+ghost use mathlib.Core.Path.{_≡_};
+ghost use Prim.Native.Nat.{_≤_, _<_};
+ghost use lib.ListN.{length, getD};
+ghost use Rattle.algorithm.specs.Table.{count, server, termAt, mark};
+ghost use Rattle.algorithm.specs.Actions.{withConfig};
+ghost use Rattle.table.specs.Layout.{row, tableIn};
+ghost use Rattle.table.specs.Slice.{Held, Became, Within, changed, withRole, withTerm, withEntry, withoutLast, withMark, seen};
+use crate::words::put;
+use crate::words::word;
+use algorithm::Position;
+use algorithm::Term;
+use algorithm::Version;
+
+// A server's figures; `last` is its log's last entry, 0 where the log is empty.
+pub struct Row {
+    pub role: u32,
+    pub term: Term,
+    pub set: u16,
+    pub version: Version,
+    pub config: Term,
+    pub length: Position,
+    pub last: Term,
+}
+
+pub const ROW: usize = 70;
+
+// The places of a server's figures in its row, and of its log's first entry: position p is p places after the length. The marks stand
+// in row 0 as a log does.
+pub const ROLE: usize = 0;
+
+pub const TERM: usize = 1;
+
+pub const SET: usize = 2;
+
+pub const VERSION: usize = 3;
+
+pub const CONFIG: usize = 4;
+
+pub const LENGTH: usize = 5;
+
+pub const LOG: usize = 6;
+
+// How many servers there are.
+pub fn count_of(t: &[u8]) -> u8
+    requires { ⌜ Held (now t) ⌝ }
+    ensures { λ r. ⌜ r ≡ count (tableIn (now (t .entry))) ⌝ }
+{
+    word(t, 0) as u8
+}
+
+// Word f of the row of server s.
+fn field(t: &[u8], s: usize, f: usize) -> u32
+    requires { ⌜ Held (now t) ⌝ }
+    requires { ⌜ Within (now t) s ⌝ }
+    requires { ⌜ f < 70 ⌝ }
+    ensures { λ r. ⌜ r ≡ getD (row (server (tableIn (now (t .entry))) s)) f 0 ⌝ }
+{
+    word(t, ROW * s + f)
+}
+
+fn set_of(t: &[u8], s: usize) -> u16
+    requires { ⌜ Held (now t) ⌝ }
+    requires { ⌜ Within (now t) s ⌝ }
+    ensures { λ r. ⌜ r ≡ server (tableIn (now (t .entry))) s .config .set ⌝ }
+{
+    field(t, s, SET) as u16
+}
+
+fn length_of(t: &[u8], s: usize) -> u8
+    requires { ⌜ Held (now t) ⌝ }
+    requires { ⌜ Within (now t) s ⌝ }
+    ensures { λ r. ⌜ (r ≡ length (server (tableIn (now (t .entry))) s .log)) × (r ≤ 64) ⌝ }
+{
+    field(t, s, LENGTH) as u8
+}
+
+pub fn row_of(t: &[u8], s: usize) -> Row
+    requires { ⌜ Held (now t) ⌝ }
+    requires { ⌜ Within (now t) s ⌝ }
+    ensures { λ r. ⌜ r ≡ seen (server (tableIn (now (t .entry))) s) ⌝ }
+{
+    let n = length_of(t, s);
+    Row {
+        role: field(t, s, ROLE),
+        term: Term(field(t, s, TERM)),
+        set: set_of(t, s),
+        version: Version(field(t, s, VERSION)),
+        config: Term(field(t, s, CONFIG)),
+        length: Position(n),
+        last: Term(field(t, s, LENGTH + n as usize)),
+    }
+}
+
+// The entry of server s at a position, 0 where it has none.
+pub fn entry_of(t: &[u8], s: usize, p: Position) -> Term
+    requires { ⌜ Held (now t) ⌝ }
+    requires { ⌜ Within (now t) s ⌝ }
+    requires { ⌜ (1 ≤ p .0) × (p .0 ≤ 64) ⌝ }
+    ensures { λ r. ⌜ r .0 ≡ termAt (server (tableIn (now (t .entry))) s .log) (p .0) ⌝ }
+{
+    Term(field(t, s, LENGTH + p.0 as usize))
+}
+
+// The term committed at a position, or 0.
+pub fn mark_of(t: &[u8], p: Position) -> Term
+    requires { ⌜ Held (now t) ⌝ }
+    requires { ⌜ (1 ≤ p .0) × (p .0 ≤ 64) ⌝ }
+    ensures { λ r. ⌜ r .0 ≡ mark (tableIn (now (t .entry))) (p .0) ⌝ }
+{
+    Term(word(t, LENGTH + p.0 as usize))
+}
+
+pub fn put_role(t: &mut [u8], s: usize, v: u32)
+    requires { ⌜ Held (now t) ⌝ }
+    requires { ⌜ Within (now t) s ⌝ }
+    ensures { λ _. ⌜ Became (now (t .entry)) (now (t .exit)) (changed (tableIn (now (t .entry))) s (withRole v)) ⌝ }
+{
+    put(t, ROW * s + ROLE, v);
+}
+
+pub fn put_term(t: &mut [u8], s: usize, v: Term)
+    requires { ⌜ Held (now t) ⌝ }
+    requires { ⌜ Within (now t) s ⌝ }
+    ensures { λ _. ⌜ Became (now (t .entry)) (now (t .exit)) (changed (tableIn (now (t .entry))) s (withTerm (v .0))) ⌝ }
+{
+    put(t, ROW * s + TERM, v.0);
+}
+
+pub fn put_config(t: &mut [u8], s: usize, set: u16, version: Version, config: Term)
+    requires { ⌜ Held (now t) ⌝ }
+    requires { ⌜ Within (now t) s ⌝ }
+    ensures { λ _. ⌜ Became (now (t .entry)) (now (t .exit)) (changed (tableIn (now (t .entry))) s (withConfig (record { set = set; version = version .0; term = config .0 }))) ⌝ }
+{
+    put(t, ROW * s + SET, set as u32);
+    put(t, ROW * s + VERSION, version.0);
+    put(t, ROW * s + CONFIG, config.0);
+}
+
+// An entry more at the end of the log of server s, which has room for it.
+pub fn push(t: &mut [u8], s: usize, v: Term)
+    requires { ⌜ Held (now t) ⌝ }
+    requires { ⌜ Within (now t) s ⌝ }
+    requires { ⌜ length (server (tableIn (now t)) s .log) < 64 ⌝ }
+    ensures { λ _. ⌜ Became (now (t .entry)) (now (t .exit)) (changed (tableIn (now (t .entry))) s (withEntry (v .0))) ⌝ }
+{
+    let n = length_of(t, s) + 1;
+    put(t, ROW * s + LENGTH, n as u32);
+    put(t, ROW * s + (LENGTH + n as usize), v.0);
+}
+
+// The last entry of the log of server s goes.
+pub fn pop(t: &mut [u8], s: usize)
+    requires { ⌜ Held (now t) ⌝ }
+    requires { ⌜ Within (now t) s ⌝ }
+    requires { ⌜ 1 ≤ length (server (tableIn (now t)) s .log) ⌝ }
+    ensures { λ _. ⌜ Became (now (t .entry)) (now (t .exit)) (changed (tableIn (now (t .entry))) s withoutLast) ⌝ }
+{
+    let n = length_of(t, s);
+    put(t, ROW * s + LENGTH, (n - 1) as u32);
+    put(t, ROW * s + (LENGTH + n as usize), 0);
+}
+
+pub fn put_mark(t: &mut [u8], p: Position, v: Term)
+    requires { ⌜ Held (now t) ⌝ }
+    requires { ⌜ (1 ≤ p .0) × (p .0 ≤ 64) ⌝ }
+    ensures { λ _. ⌜ Became (now (t .entry)) (now (t .exit)) (withMark (tableIn (now (t .entry))) (p .0) (v .0)) ⌝ }
+{
+    put(t, LENGTH + p.0 as usize, v.0);
+}
