@@ -73,6 +73,20 @@ pub run-next : (k : ℕ) (t : Table) (p : List ℕ) → runTo (k + 1) t p ≡ st
 unfolding play stepped
 run-next k t p = rw (add-one k, pieces-next k p) (play-append t (pieces k p) (take 8 (drop (8 * k) p) ∷ []))
 
+-- a reply for each piece
+length-pieces : (k : ℕ) (p : List ℕ) → length (pieces k p) ≡ k
+unfolding pieces
+length-pieces zero p = refl
+length-pieces (suc k) p = ap suc (length-pieces k (drop 8 p))
+
+length-replies : (t : Table) (p : List (List ℕ)) → length (play t p .replies) ≡ length p
+unfolding play
+length-replies t [] = refl
+length-replies t (a ∷ p) = ap suc (length-replies (step t a .table) p)
+
+pub replies-count : (k : ℕ) (t : Table) (p : List ℕ) → length (runTo k t p .replies) ≡ k
+replies-count k t p = length-replies t (pieces k p) ∙ length-pieces k p
+
 -- ---- marks
 
 -- a commit at a marked position has that very term

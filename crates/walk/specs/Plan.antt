@@ -1,0 +1,11 @@
+-- What stands at a place of a list of actions, by the bytes that are left from there, with the place behind it. Assumes nothing.
+use Prim.Native.Nat.{ℕ, _+_, _-_}
+use mathlib.Core.List.{List}
+use mathlib.Core.Bool.{cond}
+use lib.ListN.{length}
+use lib.Dec.{leb}
+use Rattle.walk.specs.declared.Found.{Found}
+use Rattle.walk.specs.declared.Found.the-variants.{Action, Cut, End}
+
+unfoldable pub foundAt : List ℕ → ℕ → Found
+foundAt p at = cond (leb (length p) at) End (cond (leb 8 (length p - at)) (Action (at + 8)) (Cut (length p)))
