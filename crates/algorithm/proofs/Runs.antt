@@ -66,11 +66,11 @@ pieces-next (suc k) p =
     rw e (ap (λ l. take 8 p ∷ l) (pieces-next k (drop 8 p)))
 
 -- what a step adds to a run
-pub stepped : Ran → List ℕ → Ran
+abbrev pub stepped : Ran → List ℕ → Ran
 stepped r a = joined r (record { replies = step (r .table) a .number ∷ []; table = step (r .table) a .table })
 
 pub run-next : (k : ℕ) (t : Table) (p : List ℕ) → runTo (k + 1) t p ≡ stepped (runTo k t p) (take 8 (drop (8 * k) p))
-unfolding play stepped
+unfolding play
 run-next k t p = rw (add-one k, pieces-next k p) (play-append t (pieces k p) (take 8 (drop (8 * k) p) ∷ []))
 
 -- a reply for each piece
