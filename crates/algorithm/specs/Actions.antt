@@ -13,6 +13,7 @@ pub record Refusal : Type 0 where
   pub number : ℕ
   pub holds : Bool
 
+-- number k, where b holds
 abbrev pub refuse : ℕ → Bool → Refusal
 refuse k b = record { number = k; holds = b }
 
@@ -20,10 +21,11 @@ refuse k b = record { number = k; holds = b }
 abbrev pub withServer : Table → ℕ → Server → Table
 withServer t i s = record { servers = replace (t .servers) i s; marks = t .marks }
 
--- a server with another configuration, and one with another log
+-- a server with another configuration
 abbrev pub withConfig : Config → Server → Server
 withConfig C s = record { role = s .role; term = s .term; config = C; log = s .log }
 
+-- a server with another log
 abbrev pub withLog : Log → Server → Server
 withLog l s = record { role = s .role; term = s .term; config = s .config; log = l }
 
@@ -33,16 +35,19 @@ steppedDown T s = record { role = 0; term = T; config = s .config; log = s .log 
 
 -- ---- 1: elect i by the set q
 
--- server s has a larger term than i, a newer configuration, a log that is ahead
+-- server s has a larger term than i
 abbrev pub largerTerm : Table → ℕ → ℕ → Bool
 largerTerm t i s = ltb (server t i .term) (server t s .term)
 
+-- server s has a newer configuration than i
 abbrev pub newerConfig : Table → ℕ → ℕ → Bool
 newerConfig t i s = newer (server t s .config) (server t i .config)
 
+-- server s has a log that is ahead of i's
 abbrev pub logAhead : Table → ℕ → ℕ → Bool
 logAhead t i s = ahead (server t s .log) (server t i .log)
 
+-- what can be said against it
 abbrev pub electRefusals : Table → ℕ → ℕ → List Refusal
 electRefusals t i q =
     let a = server t i in
@@ -58,6 +63,7 @@ unfoldable pub votersFrom : ℕ → ℕ → ℕ → List Server → List Server
 votersFrom k q T [] = []
 votersFrom k q T (s ∷ ss) = cond (member k q) (steppedDown T s) s ∷ votersFrom (suc k) q T ss
 
+-- every member of q has voted for the term T
 abbrev pub voted : Table → ℕ → ℕ → Table
 voted t q T = record { servers = votersFrom 1 q T (t .servers); marks = t .marks }
 
@@ -71,6 +77,7 @@ winner T s =
       log = s .log;
     }
 
+-- the members of q have the next term, and i leads it
 abbrev pub electAfter : Table → ℕ → ℕ → Table
 electAfter t i q =
     let a = server t i in
@@ -78,11 +85,12 @@ electAfter t i q =
 
 -- ---- 2: reconfigure i to the set m
 
--- server s has i's version and configuration term; it has i's term
+-- server s has i's version and configuration term
 abbrev pub sameConfig : Table → ℕ → ℕ → Bool
 sameConfig t i s =
     eqb (server t s .config .version) (server t i .config .version) && eqb (server t s .config .term) (server t i .config .term)
 
+-- server s has i's term
 abbrev pub sameTerm : Table → ℕ → ℕ → Bool
 sameTerm t i s = eqb (server t s .term) (server t i .term)
 
@@ -100,10 +108,11 @@ holdsMarked (suc k) t T l = (not (eqb (mark t (suc k)) T) || held l (suc k) T) &
 abbrev pub holdsCommitted : Table → ℕ → ℕ → Bool
 holdsCommitted t i s = sameTerm t i s && holdsMarked positions t (server t i .term) (server t s .log)
 
--- Q1, Q2: a majority of i's set has i's version and configuration term; a majority has i's term
+-- Q1: a majority of i's set has i's version and configuration term
 abbrev pub q1 : Table → ℕ → Bool
 q1 t i = mostPass (count t) (sameConfig t i) (server t i .config .set)
 
+-- Q2: a majority of i's set has i's term
 abbrev pub q2 : Table → ℕ → Bool
 q2 t i = mostPass (count t) (sameTerm t i) (server t i .config .set)
 
@@ -111,6 +120,7 @@ q2 t i = mostPass (count t) (sameTerm t i) (server t i .config .set)
 abbrev pub p1 : Table → ℕ → Bool
 p1 t i = someMarked positions t (server t i .term) && mostPass (count t) (holdsCommitted t i) (server t i .config .set)
 
+-- what can be said against it
 abbrev pub reconfigureRefusals : Table → ℕ → ℕ → List Refusal
 reconfigureRefusals t i m =
     let a = server t i in
@@ -127,6 +137,7 @@ reconfigureRefusals t i m =
 abbrev pub nextConfig : ℕ → Config → Config
 nextConfig m C = record { set = m; version = C .version + 1; term = C .term }
 
+-- i has the next configuration, with the set m
 abbrev pub reconfigureAfter : Table → ℕ → ℕ → Table
 reconfigureAfter t i m =
     let a = server t i in
@@ -134,25 +145,30 @@ reconfigureAfter t i m =
 
 -- ---- 3: send i's configuration to j
 
+-- what can be said against it
 abbrev pub sendRefusals : Table → ℕ → ℕ → List Refusal
 sendRefusals t i j =
     let a = server t i in
     let b = server t j in
     refuse 6 (not (primary a) || not (secondary b)) ∷ refuse 17 (not (newer (a .config) (b .config))) ∷ []
 
+-- j has i's configuration
 abbrev pub sendAfter : Table → ℕ → ℕ → Table
 sendAfter t i j = withServer t j (withConfig (server t i .config) (server t j))
 
 -- ---- 4: spread i's term to j
 
+-- what can be said against it
 abbrev pub spreadRefusals : Table → ℕ → ℕ → List Refusal
 spreadRefusals t i j = refuse 18 (not (ltb (server t j .term) (server t i .term))) ∷ []
 
+-- j has i's term and is secondary
 abbrev pub spreadAfter : Table → ℕ → ℕ → Table
 spreadAfter t i j = withServer t j (steppedDown (server t i .term) (server t j))
 
 -- ---- 5: write at i
 
+-- what can be said against it
 abbrev pub writeRefusals : Table → ℕ → List Refusal
 writeRefusals t i =
     let a = server t i in
@@ -164,6 +180,7 @@ appended t i e =
     let a = server t i in
     withServer t i (withLog (a .log ++ (e ∷ [])) a)
 
+-- i's term stands at the end of its log
 abbrev pub writeAfter : Table → ℕ → Table
 writeAfter t i = appended t i (record { term = server t i .term })
 
@@ -173,6 +190,7 @@ writeAfter t i = appended t i (record { term = server t i .term })
 abbrev pub joins : Log → Log → Bool
 joins l m = eqb (length l) 0 || eqb (last l) (termAt m (length l))
 
+-- what can be said against it
 abbrev pub fetchRefusals : Table → ℕ → ℕ → List Refusal
 fetchRefusals t i j =
     let a = server t i in
@@ -181,17 +199,20 @@ fetchRefusals t i j =
     ∷ refuse 20 (not (ltb (length (a .log)) (length (b .log)) && joins (a .log) (b .log)))
     ∷ []
 
+-- i has j's next entry
 abbrev pub fetchAfter : Table → ℕ → ℕ → Table
 fetchAfter t i j = appended t i (entryAt (server t j .log) (length (server t i .log) + 1))
 
 -- ---- 7: roll back i against j
 
+-- what can be said against it
 abbrev pub rollBackRefusals : Table → ℕ → ℕ → List Refusal
 rollBackRefusals t i j =
     let a = server t i in
     let b = server t j in
     refuse 6 (not (secondary a)) ∷ refuse 21 (not (ltb (last (a .log)) (last (b .log))) || prefix (a .log) (b .log)) ∷ []
 
+-- i's last entry is gone
 abbrev pub rollBackAfter : Table → ℕ → ℕ → Table
 rollBackAfter t i j =
     let a = server t i in
@@ -203,6 +224,7 @@ rollBackAfter t i j =
 abbrev pub holdsLast : Table → ℕ → ℕ → Bool
 holdsLast t i s = sameTerm t i s && held (server t s .log) (length (server t i .log)) (server t i .term)
 
+-- what can be said against it
 abbrev pub commitRefusals : Table → ℕ → ℕ → List Refusal
 commitRefusals t i q =
     let a = server t i in
@@ -214,6 +236,7 @@ commitRefusals t i q =
     ∷ refuse 24 (not (eqb (mark t p) 0 || eqb (mark t p) (a .term)))
     ∷ []
 
+-- the position of i's last entry is marked with i's term
 abbrev pub commitAfter : Table → ℕ → ℕ → Table
 commitAfter t i q =
     let a = server t i in

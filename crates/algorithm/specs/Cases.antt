@@ -14,6 +14,7 @@ pub record Case : Type 0 where
   pub gives : List ℕ
   pub expected : List ℕ
 
+-- a case
 abbrev pub _gives_ : List ℕ → List ℕ → Case
 g gives e = record { gives = g; expected = e }
 
@@ -21,9 +22,11 @@ g gives e = record { gives = g; expected = e }
 abbrev pub bytes : ℕ → ℕ → ℕ → ℕ → List ℕ
 bytes kind i j m = kind ∷ i ∷ j ∷ 0 ∷ m % 256 ∷ m / 256 ∷ 0 ∷ 0 ∷ []
 
+-- a plan's replies
 abbrev pub replies : Table → List ℕ → List ℕ
 replies t p = run t p .replies
 
+-- a log of these terms
 abbrev pub log : List ℕ → Log
 log = map (λ T. record { term = T })
 
@@ -40,6 +43,7 @@ alone = withServer (fresh 1 1) 1 (winner 1 (freshServer 1))
 abbrev pub backTwice : List ℕ
 backTwice = bytes 7 1 2 0 ++ bytes 7 1 2 0
 
+-- the cases, one line each
 unfoldable pub cases : List Case
 cases =
     (replies (fresh 1 1) (bytes 1 1 0 1) gives 0 ∷ [])

@@ -23,6 +23,7 @@ stakes t (commit i q) = []
 unfoldable pub wonBy : Table → List ℕ → List ℕ
 wonBy t a = cond (eqb (step t a .number) 0) (stakes t (actionOf a)) []
 
+-- the terms won by actions one after another
 unfoldable pub wonAlong : Table → List (List ℕ) → List ℕ
 wonAlong t [] = []
 wonAlong t (a ∷ rest) = wonBy t a ++ wonAlong (step t a .table) rest

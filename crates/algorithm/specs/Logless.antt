@@ -22,16 +22,19 @@ core t n = withLog [] (server t n)
 unfoldable pub put : {A : Type 0} → (ℕ → A) → ℕ → A → ℕ → A
 put f k a n = cond (eqb n k) a (f n)
 
+-- kinds 1 to 4
 pub data Action : Type 0 where
   elect reconfigure : ℕ → ℕ → Action
   send spread : ℕ → ℕ → Action
 
+-- i can be elected by the set q
 pub record CanElect (s : State) (i q : ℕ) : Type 0 where
   pub majority : Majority q (s i .config .set)
   pub self : Member i q
   pub terms : All q (λ n. s n .term ≤ s i .term)
   pub configs : All q (λ n. T (not (newer (s n .config) (s i .config))))
 
+-- i can go over to the set m
 pub record CanReconfigure (s : State) (i m : ℕ) : Type 0 where
   pub primary : s i .role ≡ 1
   pub self : Member i m
@@ -39,10 +42,12 @@ pub record CanReconfigure (s : State) (i m : ℕ) : Type 0 where
   pub Q1 : Most (s i .config .set) (λ n. (s n .config .version ≡ s i .config .version) × (s n .config .term ≡ s i .config .term))
   pub Q2 : Most (s i .config .set) (λ n. s n .term ≡ s i .term)
 
+-- i's configuration can go to j
 pub record CanSend (s : State) (i j : ℕ) : Type 0 where
   pub secondary : s j .role ≡ 0
   pub newer : T (newer (s i .config) (s j .config))
 
+-- what an action asks of a state
 abbrev pub Allowed : State → Action → Type 0
 Allowed s (elect i q) = CanElect s i q
 Allowed s (reconfigure i m) = CanReconfigure s i m
@@ -53,6 +58,7 @@ Allowed s (spread i j) = s j .term < s i .term
 unfoldable pub voted : State → ℕ → ℕ → State
 voted s q T n = cond (member n q) (steppedDown T (s n)) (s n)
 
+-- the state after an action
 abbrev pub after : State → Action → State
 after s (elect i q) = put (voted s q (s i .term + 1)) i (winner (s i .term + 1) (s i))
 after s (reconfigure i m) = put s i (withConfig (nextConfig m (s i .config)) (s i))

@@ -10,9 +10,11 @@ use Rattle.algorithm.specs.Actions.{Refusal, refuse, electRefusals, elec
 
 -- ---- the bytes: kind, i, j, 0, set (low byte first), 0, 0
 
+-- byte k of an action, from 0
 abbrev pub byte : List ℕ → ℕ → ℕ
 byte a k = getD a k 0
 
+-- the kind, server i, server j, and the set
 abbrev pub kindOf : List ℕ → ℕ
 kindOf a = byte a 0
 
@@ -34,16 +36,19 @@ usesSecond k = eqb k 3 || eqb k 4 || eqb k 6 || eqb k 7
 
 -- ---- the action that the bytes name
 
+-- the eight kinds with what they use, and what is none of them
 pub data Action : Type 0 where
-  unknown : Action
   elect reconfigure commit : ℕ → ℕ → Action
   send spread fetch rollBack : ℕ → ℕ → Action
   write : ℕ → Action
+  unknown : Action
 
+-- the actions by the numbers of their kinds, from 0
 abbrev pub kinds : ℕ → ℕ → ℕ → List Action
 kinds i j m =
     unknown ∷ elect i m ∷ reconfigure i m ∷ send i j ∷ spread i j ∷ write i ∷ fetch i j ∷ rollBack i j ∷ commit i m ∷ []
 
+-- the action in the bytes
 abbrev pub actionOf : List ℕ → Action
 actionOf a = getD (kinds (firstOf a) (secondOf a) (setOf a)) (kindOf a) unknown
 
@@ -53,7 +58,7 @@ actionOf a = getD (kinds (firstOf a) (secondOf a) (setOf a)) (kindOf a) unknown
 abbrev pub known : ℕ → ℕ → Bool
 known n i = leb 1 i && leb i n
 
--- 1 to 5
+-- 1 to 5: the table, the kind, stray fields, server numbers, the set
 abbrev pub commonRefusals : Table → List ℕ → List Refusal
 commonRefusals t a =
     refuse 1 (broken t)
@@ -75,6 +80,7 @@ ownRefusals t (fetch i j) = fetchRefusals t i j
 ownRefusals t (rollBack i j) = rollBackRefusals t i j
 ownRefusals t (commit i q) = commitRefusals t i q
 
+-- all that can be said against an action, lowest number first
 unfoldable pub refusals : Table → List ℕ → List Refusal
 refusals t a = commonRefusals t a ++ ownRefusals t (actionOf a)
 

@@ -36,6 +36,7 @@ pub record Config : Type 0 where
 pub record Entry : Type 0 where
   pub term : ℕ
 
+-- a log: its entries in order
 abbrev pub Log : Type 0
 Log = List Entry
 
@@ -63,6 +64,7 @@ absent = record { role = 0; term = 0; config = record { set = 0; version = 0; te
 abbrev pub server : Table → ℕ → Server
 server t i = nth (t .servers) i absent
 
+-- a server leads, or follows
 abbrev pub primary : Server → Bool
 primary s = eqb (s .role) 1
 
@@ -108,6 +110,7 @@ soundServer n s =
     && leb (length (s .log)) positions
     && every soundEntry (s .log)
 
+-- there is a mark, perhaps 0, for each position
 abbrev pub soundMarks : List ℕ → Bool
 soundMarks ms = eqb (length ms) positions && every (λ m. leb m ceiling) ms
 
@@ -117,9 +120,10 @@ broken t = not (leb 1 (count t) && leb (count t) 16 && every (soundServer (count
 
 -- ---- a fresh table
 
+-- a server of which nothing has happened yet, with the set M
 abbrev pub freshServer : ℕ → Server
 freshServer M = record { role = 0; term = 0; config = record { set = M; version = 1; term = 0 }; log = [] }
 
--- n servers with the set M
+-- n such servers, and no marks
 abbrev pub fresh : ℕ → ℕ → Table
 fresh n M = record { servers = replicate n (freshServer M); marks = replicate positions 0 }

@@ -16,6 +16,7 @@ abbrev pub member : ℕ → ℕ → Bool
 member zero m = false
 member (suc k) m = bit k m
 
+-- the same as a statement
 abbrev pub Member : ℕ → ℕ → Type 0
 Member s m = T (member s m)
 
