@@ -58,15 +58,18 @@ actionOf a = getD (kinds (firstOf a) (secondOf a) (setOf a)) (kindOf a) unknown
 abbrev pub known : ℕ → ℕ → Bool
 known n i = leb 1 i && leb i n
 
--- 1 to 5: the table, the kind, stray fields, server numbers, the set
-abbrev pub commonRefusals : Table → List ℕ → List Refusal
-commonRefusals t a =
-    refuse 1 (broken t)
-    ∷ refuse 2 (not (eqb (length a) 8 && leb 1 (kindOf a) && leb (kindOf a) 8))
+-- 2 to 5, in a table of n servers: the kind, stray fields, server numbers, the set
+abbrev pub formRefusals : ℕ → List ℕ → List Refusal
+formRefusals n a =
+    refuse 2 (not (eqb (length a) 8 && leb 1 (kindOf a) && leb (kindOf a) 8))
     ∷ refuse 3 (not (eqb (byte a 3 + byte a 6 + byte a 7) 0 && (usesSecond (kindOf a) || eqb (secondOf a) 0) && (usesSet (kindOf a) || eqb (setOf a) 0)))
-    ∷ refuse 4 (not (known (count t) (firstOf a) && (not (usesSecond (kindOf a)) || known (count t) (secondOf a))))
-    ∷ refuse 5 (usesSet (kindOf a) && not (within (setOf a) (count t)))
+    ∷ refuse 4 (not (known n (firstOf a) && (not (usesSecond (kindOf a)) || known n (secondOf a))))
+    ∷ refuse 5 (usesSet (kindOf a) && not (within (setOf a) n))
     ∷ []
+
+-- 1 to 5
+abbrev pub commonRefusals : Table → List ℕ → List Refusal
+commonRefusals t a = refuse 1 (broken t) ∷ formRefusals (count t) a
 
 -- 6 and above, of the action's own kind
 abbrev pub ownRefusals : Table → Action → List Refusal
