@@ -89,7 +89,7 @@ pub common-fit : (t : Table) (a : List ℕ) → NoneHold (commonRefusals t a) �
 common-fit t a (sound, (_, (_, (servers, (sets, _))))) =
     (sound, fits (count t) (kindOf a) (firstOf a) (secondOf a) (setOf a) (refuted servers) sets)
 
-taken : (t : Table) (a : List ℕ) → first (refusals t a) ≡ 0 → Taken t (actionOf a)
+pub taken : (t : Table) (a : List ℕ) → first (refusals t a) ≡ 0 → Taken t (actionOf a)
 unfolding refusals every
 taken t a e =
     let (form, later) = first-later 0 (commonRefusals t a) (ownRefusals t (actionOf a)) tt e in

@@ -1,5 +1,8 @@
-// The vocabulary of the engine: three counters that cannot stand for one another, and the reply to an action.
+// The vocabulary of the engine: three counters that cannot stand for one another, the set that an action names, and the reply to it.
 ghost use mathlib.Core.Path.{_≡_};
+ghost use Prim.Native.Nat.{_+_, _*_};
+ghost use lib.ListN.{length};
+ghost use Rattle.algorithm.specs.Refusals.{setOf};
 ghost use Rattle.algorithm.specs.Reply.{numberOf};
 
 pub struct Term(pub u32);
@@ -7,6 +10,20 @@ pub struct Term(pub u32);
 pub struct Version(pub u32);
 
 pub struct Position(pub u8);
+
+fn pair(low: u8, high: u8) -> u16
+    ensures { λ r. ⌜ r ≡ low + 256 * high ⌝ }
+{
+    low as u16 + 256 * (high as u16)
+}
+
+// The set of an action.
+pub fn set_in(a: &[u8]) -> u16
+    requires { ⌜ length (now a) ≡ 8 ⌝ }
+    ensures { λ r. ⌜ r ≡ setOf (now (a .entry)) ⌝ }
+{
+    pair(a[4], a[5])
+}
 
 pub enum Reply {
     Taken,

@@ -2,7 +2,7 @@
 use Prim.Native.Nat.{ℕ, _≤_, _<_}
 use native.Mathlib.Omega.{arith}
 use mathlib.Core.Path.{_≡_, ap, sym, _∙_}
-use mathlib.Core.Bool.{Bool, false, not}
+use mathlib.Core.Bool.{Bool, true, false, not}
 use mathlib.Core.List.{List}
 use lib.Dec.{T, eqb, leb→le}
 use lib.ListN.{length, getD}
@@ -10,6 +10,7 @@ use borrow.Author.Tests.{eq-eqb, ne-eqb}
 use Rattle.algorithm.specs.Table.{count, broken}
 use Rattle.table.specs.Words.{words, bytes}
 use Rattle.table.specs.Layout.{layout, stored, tableOf, tableIn, same, whole}
+use Rattle.table.specs.Slice.{Held}
 use Rattle.table.specs.Check.{soundWords}
 use Rattle.table.proofs.WordLaws.{length-words, bytes-words}
 use Rattle.table.proofs.BoolLaws.{all-three, tell-same, is-true}
@@ -62,3 +63,7 @@ module _ (b : List ℕ) (n : ℕ) (first : n ≡ getD (words b) 0 0) where
           let w = is-true (whole b) h in
           let k = whole-held b w in
           rw (count-read b n k first, k .laid) (words-pass (tableIn b) (sound (tableIn b) (rw (whole-sound b w) tt)))
+
+-- what the answer tells a caller
+pub checked : (b : List ℕ) (r : Bool) → r ≡ whole b → r ≡ true → Held b
+checked b r e h = whole-held b (sym e ∙ h)

@@ -7,11 +7,11 @@ use mathlib.Core.List.{List, [], _∷_, _++_, append-nil}
 use lib.ListN.{length, getD, set, drop, replicate, length-set, length-append, length-replicate, replicate-append-replicate}
 use borrow.Author.Fill.{fill-none, fill-more}
 use lib.Seq.{drop-length, set-at, getD-at, append-snoc}
-use Rattle.algorithm.specs.Table.{Server, Table, absent, nth, replace, count, server, freshServer, fresh}
-use Rattle.algorithm.specs.Actions.{withServer, withConfig}
+use Rattle.algorithm.specs.Table.{Server, Table, absent, nth, replace, count, freshServer, fresh}
+use Rattle.algorithm.specs.Actions.{withConfig}
 use Rattle.table.specs.Words.{words, Put}
 use Rattle.table.specs.Layout.{padded, rows, layout, tableIn}
-use Rattle.table.specs.Slice.{AllRoomy, Holds, Held, Became, Within, blank}
+use Rattle.table.specs.Slice.{AllRoomy, Holds, Held, Became, Within, changed, blank}
 use Rattle.table.proofs.LayoutLaws.{rows-none}
 use Rattle.table.proofs.HeldLaws.{its-table, held}
 
@@ -84,7 +84,7 @@ pub record Given (b : List ℕ) (n m k : ℕ) : Type 0 where
 
 -- one server more
 partly-next : (n m k : ℕ) → k < n
-    → withServer (partly n m k) (k + 1) (withConfig (record { set = m; version = 1; term = 0 }) (server (partly n m k) (k + 1)))
+    → changed (partly n m k) (k + 1) (withConfig (record { set = m; version = 1; term = 0 }))
     ≡ partly n m (k + 1)
 unfolding nth replace
 partly-next n m k h =
@@ -115,7 +115,7 @@ module _ (b : List ℕ) (n m : ℕ) where
     given-within h = record { some = omega arith; known = rw (its-table (g .holds)) (omega (arith, many)) }
 
     pub given-more : (b' : List ℕ) → k < n
-        → Became b b' (withServer (tableIn b) (k + 1) (withConfig (record { set = m; version = 1; term = 0 }) (server (tableIn b) (k + 1))))
+        → Became b b' (changed (tableIn b) (k + 1) (withConfig (record { set = m; version = 1; term = 0 })))
         → Given b' n m (k + 1)
     given-more b' h c =
         record {

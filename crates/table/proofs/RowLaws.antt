@@ -1,6 +1,6 @@
 -- What the functions on one row read and put. Assumes nothing.
 use Prim.Native.Nat.{ℕ, zero, suc, _+_, _-_, _*_, _≤_, _<_}
-use native.Mathlib.Nat.{zero-add}
+use native.Mathlib.Nat.{add-assoc, zero-add}
 use native.Mathlib.Numerals.{add-one, sub-one}
 use native.Mathlib.Omega.{arith}
 use mathlib.Core.Path.{_≡_, refl, ap, sym, _∙_}
@@ -107,9 +107,6 @@ row-seen s r t m v c l e er et em ev ec el short ee =
 pub set-small : (b : List ℕ) (i r : ℕ) → Held b → r ≡ server (tableIn b) i .config .set → r < 65536
 set-small b i r h e = omega (arith, e, its-room i h .small)
 
-pub log-small : (b : List ℕ) (i r : ℕ) → Held b → r ≡ length (server (tableIn b) i .log) → r < 256
-log-small b i r h e = omega (arith, e, its-room i h .short)
-
 pub log-short : (b : List ℕ) (i r : ℕ) → Held b → r ≡ length (server (tableIn b) i .log) → r ≤ 64
 log-short b i r h e = omega (arith, e, its-room i h .short)
 
@@ -158,16 +155,16 @@ module _ {b : List ℕ} {i : ℕ} (h : Held b) (w : Within b i) where
       (then f (then f (then f (open-row h w) (omega arith) p) (omega arith) q) (omega arith) u)
 
   pub push-put : (b₁ b₂ : List ℕ) (n v : ℕ) → n ≡ length (server (tableIn b) i .log) → length (server (tableIn b) i .log) < 64
-      → Put b b₁ (70 * i + 5) (n + 1) → Put b₁ b₂ (70 * i + (5 + (n + 1))) v → Became b b₂ (changed (tableIn b) i (withEntry v))
+      → Put b b₁ (70 * i + 5) (n + 1) → Put b₁ b₂ (70 * i + 5 + (n + 1)) v → Became b b₂ (changed (tableIn b) i (withEntry v))
   push-put b₁ b₂ n v e l p q =
       let s = server (tableIn b) i in
       let f = frame h w in
       close-row h w _
       (record { short = omega (arith, length-append (s .log) (record { term = v } ∷ [])); small = its-room i h .small })
-      (rw (push-row s n v e (omega arith)) at (then f (then f (open-row h w) (omega arith) p) (omega arith) q))
+      (rw (push-row s n v e (omega arith)) at (then f (then f (open-row h w) (omega arith) p) (omega arith) (rw (add-assoc (70 * i) 5 (n + 1)) at q)))
 
   pub pop-put : (b₁ b₂ : List ℕ) (n : ℕ) → n ≡ length (server (tableIn b) i .log) → 1 ≤ length (server (tableIn b) i .log)
-      → Put b b₁ (70 * i + 5) (n - 1) → Put b₁ b₂ (70 * i + (5 + n)) 0 → Became b b₂ (changed (tableIn b) i withoutLast)
+      → Put b b₁ (70 * i + 5) (n - 1) → Put b₁ b₂ (70 * i + 5 + n) 0 → Became b b₂ (changed (tableIn b) i withoutLast)
   pop-put b₁ b₂ n e l p q =
       let s = server (tableIn b) i in
       let f = frame h w in
@@ -175,7 +172,7 @@ module _ {b : List ℕ} {i : ℕ} (h : Held b) (w : Within b i) where
       close-row h w _
       (record { short = omega (arith, length-take (length (s .log) - 1) (s .log), r .short); small = r .small })
       (rw (pop-row s n e (omega arith) (omega (arith, r .short))) at
-      (then f (then f (open-row h w) (omega arith) p) (omega (arith, r .short)) q))
+      (then f (then f (open-row h w) (omega arith) p) (omega (arith, r .short)) (rw (add-assoc (70 * i) 5 n) at q)))
 
 -- ---- a mark put
 

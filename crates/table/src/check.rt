@@ -1,4 +1,4 @@
-// Whether a slice is a whole table. Every word is tested and the answers are joined without branches, so that the loops can run on several words at once.
+// Whether a slice is a whole table. The answers of the tests are joined without branches, so that a loop can test several words at once.
 ghost use mathlib.Core.Path.{_≡_};
 ghost use mathlib.Core.List.{[]};
 ghost use Prim.Native.Nat.{_+_, _*_, _≤_};
@@ -9,6 +9,7 @@ ghost use Rattle.algorithm.specs.Actions.{withLog};
 ghost use Rattle.table.specs.Words.{words};
 ghost use Rattle.table.specs.Layout.{serverOf, whole};
 ghost use Rattle.table.specs.Check.{part, between, soundRow, soundRows, soundWords};
+use crate::BYTES;
 use crate::rows::CONFIG;
 use crate::rows::LENGTH;
 use crate::rows::LOG;
@@ -22,6 +23,9 @@ use members::is_within;
 
 // The largest term and the largest version.
 const CEILING: u32 = 1_000_000_000;
+
+// The words of the servers' 16 rows.
+const SERVERS: usize = 1120;
 
 // Each of the n words from word k is from low to high.
 fn all_between(t: &[u8], k: usize, n: usize, low: u32, high: u32) -> bool
@@ -39,7 +43,7 @@ fn all_between(t: &[u8], k: usize, n: usize, low: u32, high: u32) -> bool
 }
 
 // A set that has a bit above 16 has one above n.
-fn set_within(set: u32, n: u8) -> bool
+pub fn set_within(set: u32, n: u8) -> bool
     requires { ⌜ n ≤ 16 ⌝ }
     ensures { λ r. ⌜ r ≡ within set n ⌝ }
 {
@@ -109,7 +113,7 @@ fn words_sound(t: &[u8], n: u8) -> bool
     let spare = all_between(t, 1, 5, 0, 0);
     let marks = all_between(t, LOG, 64, 0, CEILING);
     let rows = rows_sound(t, n);
-    let beyond = all_between(t, used + ROW, 1120 - used, 0, 0);
+    let beyond = all_between(t, used + ROW, SERVERS - used, 0, 0);
     spare & marks & rows & beyond
 }
 
@@ -117,7 +121,7 @@ fn words_sound(t: &[u8], n: u8) -> bool
 pub fn is_whole(t: &[u8]) -> bool
     ensures { λ r. ⌜ r ≡ whole (now (t .entry)) ⌝ }
 {
-    if t.len() != 4760 {
+    if t.len() != BYTES {
         return false;
     }
     let n = word(t, 0);

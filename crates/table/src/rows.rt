@@ -67,12 +67,12 @@ fn set_of(t: &[u8], s: usize) -> u16
     field(t, s, SET) as u16
 }
 
-fn length_of(t: &[u8], s: usize) -> u8
+fn length_of(t: &[u8], s: usize) -> u32
     requires { ⌜ Held (now t) ⌝ }
     requires { ⌜ Within (now t) s ⌝ }
     ensures { λ r. ⌜ (r ≡ length (server (tableIn (now (t .entry))) s .log)) × (r ≤ 64) ⌝ }
 {
-    field(t, s, LENGTH) as u8
+    field(t, s, LENGTH)
 }
 
 pub fn row_of(t: &[u8], s: usize) -> Row
@@ -87,7 +87,7 @@ pub fn row_of(t: &[u8], s: usize) -> Row
         set: set_of(t, s),
         version: Version(field(t, s, VERSION)),
         config: Term(field(t, s, CONFIG)),
-        length: Position(n),
+        length: Position(n as u8),
         last: Term(field(t, s, LENGTH + n as usize)),
     }
 }
@@ -132,9 +132,10 @@ pub fn put_config(t: &mut [u8], s: usize, set: u16, version: Version, config: Te
     requires { ⌜ Within (now t) s ⌝ }
     ensures { λ _. ⌜ Became (now (t .entry)) (now (t .exit)) (changed (tableIn (now (t .entry))) s (withConfig (record { set = set; version = version .0; term = config .0 }))) ⌝ }
 {
-    put(t, ROW * s + SET, set as u32);
-    put(t, ROW * s + VERSION, version.0);
-    put(t, ROW * s + CONFIG, config.0);
+    let at = ROW * s;
+    put(t, at + SET, set as u32);
+    put(t, at + VERSION, version.0);
+    put(t, at + CONFIG, config.0);
 }
 
 // An entry more at the end of the log of server s, which has room for it.
@@ -145,8 +146,9 @@ pub fn push(t: &mut [u8], s: usize, v: Term)
     ensures { λ _. ⌜ Became (now (t .entry)) (now (t .exit)) (changed (tableIn (now (t .entry))) s (withEntry (v .0))) ⌝ }
 {
     let n = length_of(t, s) + 1;
-    put(t, ROW * s + LENGTH, n as u32);
-    put(t, ROW * s + (LENGTH + n as usize), v.0);
+    let at = ROW * s + LENGTH;
+    put(t, at, n);
+    put(t, at + n as usize, v.0);
 }
 
 // The last entry of the log of server s goes.
@@ -157,8 +159,9 @@ pub fn pop(t: &mut [u8], s: usize)
     ensures { λ _. ⌜ Became (now (t .entry)) (now (t .exit)) (changed (tableIn (now (t .entry))) s withoutLast) ⌝ }
 {
     let n = length_of(t, s);
-    put(t, ROW * s + LENGTH, (n - 1) as u32);
-    put(t, ROW * s + (LENGTH + n as usize), 0);
+    let at = ROW * s + LENGTH;
+    put(t, at, n - 1);
+    put(t, at + n as usize, 0);
 }
 
 pub fn put_mark(t: &mut [u8], p: Position, v: Term)

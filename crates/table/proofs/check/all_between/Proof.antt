@@ -27,10 +27,14 @@ loop-less : tie.Need-loop-less Inv-loop μ-loop
 loop-less c = search needs
 
 loop-again : tie.Need-loop-again Inv-loop μ-loop
-loop-again c = (search needs, search (needs, tested-more))
+loop-again c =
+    let turn = c .before in (
+      search needs,
+      tested-more _ _ _ _ _ _ _ _ (turn .before .before .before .pre) (turn .loop-test .taken) (turn .before .loop .inv .1) (c .word .ensures),
+    )
 
 returns : tie.Need-returns Inv-loop μ-loop
-returns c = search (needs, tested-all)
+returns c = search tested-all
 
 pub all-between-spec : {M : Type 1} → statement M
 all-between-spec =

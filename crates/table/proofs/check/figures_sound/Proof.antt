@@ -41,7 +41,7 @@ set-within-requires : tie.Need-set-within-requires
 set-within-requires c κs = search needs
 
 returns : tie.Need-returns
-returns c = search (needs, figures-at)
+returns c = search figures-at
 
 pub figures-sound-spec : {M : Type 1} → statement M
 figures-sound-spec =

@@ -5,16 +5,16 @@ use Rattle.table.proofs.check.is_whole.Statement.{statement}
 use Rattle.table.proofs.check.is_whole.Tie as tie
 
 returns : tie.Need-returns
-returns c = search (needs, other-length)
+returns c = search other-length
 
 word-requires : tie.Need-word-requires
 word-requires c κs = search needs
 
 returns-2 : tie.Need-returns-2
-returns-2 c = search (needs, no-server)
+returns-2 c = search no-server
 
 returns-3 : tie.Need-returns-3
-returns-3 c = search (needs, too-many)
+returns-3 c = search too-many
 
 cast-words-sound : tie.Need-cast-words-sound
 cast-words-sound c = search needs

@@ -14,7 +14,7 @@ word-requires : tie.Need-word-requires
 word-requires c κs = search needs
 
 returns : tie.Need-returns
-returns c = search (needs, row-long)
+returns c = search row-long
 
 cast-k : tie.Need-cast-k
 cast-k c = search needs
@@ -41,7 +41,7 @@ all-between-requires-2 : tie.Need-all-between-requires-2
 all-between-requires-2 c κs = search needs
 
 returns-2 : tie.Need-returns-2
-returns-2 c = search (needs, row-at)
+returns-2 c = search row-at
 
 pub row-sound-spec : {M : Type 1} → statement M
 row-sound-spec =

@@ -28,10 +28,10 @@ loop-less : tie.Need-loop-less Inv-loop μ-loop
 loop-less c = search needs
 
 loop-again : tie.Need-loop-again Inv-loop μ-loop
-loop-again c = (search needs, search (needs, rows-more))
+loop-again c = (search needs, search rows-more)
 
 returns : tie.Need-returns Inv-loop μ-loop
-returns c = search (needs, rows-all)
+returns c = search rows-all
 
 pub rows-sound-spec : {M : Type 1} → statement M
 rows-sound-spec =

@@ -5,7 +5,7 @@ use Rattle.table.proofs.check.set_within.Statement.{statement}
 use Rattle.table.proofs.check.set_within.Tie as tie
 
 returns : tie.Need-returns
-returns c = search (needs, set-large)
+returns c = search set-large
 
 cast-is-within : tie.Need-cast-is-within
 cast-is-within c = search needs

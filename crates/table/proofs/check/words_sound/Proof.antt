@@ -26,7 +26,7 @@ all-between-requires-3 : tie.Need-all-between-requires-3
 all-between-requires-3 c κs = search needs
 
 returns : tie.Need-returns
-returns c = search (needs, words-at)
+returns c = search words-at
 
 pub words-sound-spec : {M : Type 1} → statement M
 words-sound-spec =

@@ -14,7 +14,7 @@ same-length : tie.Need-same-length
 same-length c = search needs
 
 returns : tie.Need-returns
-returns c = search (needs, blank-holds)
+returns c = search blank-holds
 
 pub fill-blank-spec : {M : Type 1} → statement M
 fill-blank-spec = tie.close (tie.spec zero-requires put-requires same-length returns)

@@ -8,10 +8,10 @@ word-requires : tie.Need-word-requires
 word-requires c κs = search needs
 
 cast-result : tie.Need-cast-result
-cast-result c = search (needs, count-small)
+cast-result c = search count-small
 
 returns : tie.Need-returns
-returns c = search (needs, count-read)
+returns c = search count-read
 
 pub count-of-spec : {M : Type 1} → statement M
 count-of-spec = tie.close (tie.spec word-requires cast-result returns)

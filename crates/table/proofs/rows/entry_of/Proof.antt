@@ -14,7 +14,7 @@ field-requires : tie.Need-field-requires
 field-requires c κs = search needs
 
 returns : tie.Need-returns
-returns c = search (needs, entry-read)
+returns c = search entry-read
 
 pub entry-of-spec : {M : Type 1} → statement M
 entry-of-spec = tie.close (tie.spec cast-field add-field field-requires returns)

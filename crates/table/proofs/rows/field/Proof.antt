@@ -14,7 +14,7 @@ word-requires : tie.Need-word-requires
 word-requires c κs = search needs
 
 returns : tie.Need-returns
-returns c = search (needs, field-read)
+returns c = search field-read
 
 pub field-spec : {M : Type 1} → statement M
 field-spec = tie.close (tie.spec mul-word add-word word-requires returns)

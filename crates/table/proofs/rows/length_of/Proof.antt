@@ -1,17 +1,14 @@
 -- `table::rows::length_of` meets its contract. Assumes nothing.
 use borrow.Author.Needs.{needs}
-use Rattle.table.proofs.RowLaws.{log-small, log-short}
+use Rattle.table.proofs.RowLaws.{log-short}
 use Rattle.table.proofs.rows.length_of.Statement.{statement}
 use Rattle.table.proofs.rows.length_of.Tie as tie
 
 field-requires : tie.Need-field-requires
 field-requires c κs = search needs
 
-cast-result : tie.Need-cast-result
-cast-result c = search (needs, log-small)
-
 returns : tie.Need-returns
-returns c = search (needs, log-short)
+returns c = search log-short
 
 pub length-of-spec : {M : Type 1} → statement M
-length-of-spec = tie.close (tie.spec field-requires cast-result returns)
+length-of-spec = tie.close (tie.spec field-requires returns)

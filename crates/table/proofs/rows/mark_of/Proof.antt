@@ -14,7 +14,7 @@ word-requires : tie.Need-word-requires
 word-requires c κs = search needs
 
 returns : tie.Need-returns
-returns c = search (needs, mark-read)
+returns c = search mark-read
 
 pub mark-of-spec : {M : Type 1} → statement M
 mark-of-spec = tie.close (tie.spec cast-word add-word word-requires returns)

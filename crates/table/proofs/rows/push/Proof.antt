@@ -10,29 +10,20 @@ length-of-requires c κs = search needs
 add-n : tie.Need-add-n
 add-n c = search needs
 
-mul-put : tie.Need-mul-put
-mul-put c = search needs
+mul-at : tie.Need-mul-at
+mul-at c = search needs
 
-add-put : tie.Need-add-put
-add-put c = search needs
-
-cast-put : tie.Need-cast-put
-cast-put c = search needs
+add-at : tie.Need-add-at
+add-at c = search needs
 
 put-requires : tie.Need-put-requires
 put-requires c κs = search needs
 
-mul-put-2 : tie.Need-mul-put-2
-mul-put-2 c = search needs
+cast-put : tie.Need-cast-put
+cast-put c = search needs
 
-cast-put-2 : tie.Need-cast-put-2
-cast-put-2 c = search needs
-
-add-put-2 : tie.Need-add-put-2
-add-put-2 c = search needs
-
-add-put-3 : tie.Need-add-put-3
-add-put-3 c = search needs
+add-put : tie.Need-add-put
+add-put c = search needs
 
 put-requires-2 : tie.Need-put-requires-2
 put-requires-2 c κs = search needs
@@ -41,7 +32,7 @@ same-length : tie.Need-same-length
 same-length c = search needs
 
 returns : tie.Need-returns
-returns c = search (needs, push-put)
+returns c = search push-put
 
 pub push-spec : {M : Type 1} → statement M
 push-spec =
@@ -49,14 +40,11 @@ push-spec =
     (tie.spec
     length-of-requires
     add-n
-    mul-put
-    add-put
-    cast-put
+    mul-at
+    add-at
     put-requires
-    mul-put-2
-    cast-put-2
-    add-put-2
-    add-put-3
+    cast-put
+    add-put
     put-requires-2
     same-length
     returns)

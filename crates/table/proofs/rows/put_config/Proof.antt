@@ -4,8 +4,8 @@ use Rattle.table.proofs.RowLaws.{config-put}
 use Rattle.table.proofs.rows.put_config.Statement.{statement}
 use Rattle.table.proofs.rows.put_config.Tie as tie
 
-mul-put : tie.Need-mul-put
-mul-put c = search needs
+mul-at : tie.Need-mul-at
+mul-at c = search needs
 
 add-put : tie.Need-add-put
 add-put c = search needs
@@ -13,17 +13,11 @@ add-put c = search needs
 put-requires : tie.Need-put-requires
 put-requires c κs = search needs
 
-mul-put-2 : tie.Need-mul-put-2
-mul-put-2 c = search needs
-
 add-put-2 : tie.Need-add-put-2
 add-put-2 c = search needs
 
 put-requires-2 : tie.Need-put-requires-2
 put-requires-2 c κs = search needs
-
-mul-put-3 : tie.Need-mul-put-3
-mul-put-3 c = search needs
 
 add-put-3 : tie.Need-add-put-3
 add-put-3 c = search needs
@@ -35,19 +29,17 @@ same-length : tie.Need-same-length
 same-length c = search needs
 
 returns : tie.Need-returns
-returns c = search (needs, config-put)
+returns c = search config-put
 
 pub put-config-spec : {M : Type 1} → statement M
 put-config-spec =
     tie.close
     (tie.spec
-    mul-put
+    mul-at
     add-put
     put-requires
-    mul-put-2
     add-put-2
     put-requires-2
-    mul-put-3
     add-put-3
     put-requires-3
     same-length

@@ -17,7 +17,7 @@ same-length : tie.Need-same-length
 same-length c = search needs
 
 returns : tie.Need-returns
-returns c = search (needs, mark-put)
+returns c = search mark-put
 
 pub put-mark-spec : {M : Type 1} → statement M
 put-mark-spec = tie.close (tie.spec cast-put add-put put-requires same-length returns)

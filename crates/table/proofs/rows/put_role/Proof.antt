@@ -17,7 +17,7 @@ same-length : tie.Need-same-length
 same-length c = search needs
 
 returns : tie.Need-returns
-returns c = search (needs, role-put)
+returns c = search role-put
 
 pub put-role-spec : {M : Type 1} → statement M
 put-role-spec = tie.close (tie.spec mul-put add-put put-requires same-length returns)

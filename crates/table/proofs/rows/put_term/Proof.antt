@@ -17,7 +17,7 @@ same-length : tie.Need-same-length
 same-length c = search needs
 
 returns : tie.Need-returns
-returns c = search (needs, term-put)
+returns c = search term-put
 
 pub put-term-spec : {M : Type 1} → statement M
 put-term-spec = tie.close (tie.spec mul-put add-put put-requires same-length returns)

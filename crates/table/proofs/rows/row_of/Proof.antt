@@ -22,6 +22,9 @@ field-requires-3 c κs = search needs
 field-requires-4 : tie.Need-field-requires-4
 field-requires-4 c κs = search needs
 
+cast-t12 : tie.Need-cast-t12
+cast-t12 c = search needs
+
 cast-field : tie.Need-cast-field
 cast-field c = search needs
 
@@ -32,7 +35,7 @@ field-requires-5 : tie.Need-field-requires-5
 field-requires-5 c κs = search needs
 
 returns : tie.Need-returns
-returns c = search (needs, row-seen)
+returns c = search row-seen
 
 pub row-of-spec : {M : Type 1} → statement M
 row-of-spec =
@@ -44,6 +47,7 @@ row-of-spec =
     set-of-requires
     field-requires-3
     field-requires-4
+    cast-t12
     cast-field
     add-field
     field-requires-5

@@ -8,7 +8,7 @@ field-requires : tie.Need-field-requires
 field-requires c κs = search needs
 
 cast-result : tie.Need-cast-result
-cast-result c = search (needs, set-small)
+cast-result c = search set-small
 
 returns : tie.Need-returns
 returns c = search needs

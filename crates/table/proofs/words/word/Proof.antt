@@ -32,7 +32,7 @@ joined-requires : tie.Need-joined-requires
 joined-requires c κs = search needs
 
 returns : tie.Need-returns
-returns c = search (needs, word-read)
+returns c = search word-read
 
 pub word-spec : {M : Type 1} → statement M
 word-spec =

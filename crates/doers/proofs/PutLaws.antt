@@ -1,0 +1,75 @@
+-- What a slice holds once a row was read and one or several of its figures were put. Assumes nothing.
+use Prim.Native.Nat.{ℕ, zero, suc, _+_, _≤_}
+use native.Mathlib.Omega.{arith}
+use mathlib.Core.Path.{_≡_, refl, _∙_}
+use mathlib.Core.List.{List, [], _∷_, _++_}
+use lib.ListN.{length}
+use lib.Seq.{getD-set-same, set-set}
+use Rattle.algorithm.specs.Table.{Server, nth, replace, server, absent, termAt}
+use Rattle.algorithm.specs.Actions.{withServer, withConfig, withLog, steppedDown, spreadAfter, sendAfter, reconfigureAfter, writeAfter, fetchAfter, commitAfter}
+use Rattle.table.specs.declared.rows.Row.{Row}
+use Rattle.table.specs.Layout.{tableIn}
+use Rattle.table.specs.Slice.{Holds, Held, Became, Within, withRole, withTerm, withMark, seen}
+use Rattle.table.proofs.HeldLaws.{its-table, its-room}
+
+-- ---- one put after another
+
+module _ {A : Type 0} where
+  replace-twice : (l : List A) (i : ℕ) (x y : A) → replace (replace l i x) i y ≡ replace l i y
+  unfolding replace
+  replace-twice l zero x y = refl
+  replace-twice l (suc k) x y = set-set l k x y
+
+  nth-replaced : (l : List A) (i : ℕ) (x d : A) → 1 ≤ i → i ≤ length l → nth (replace l i x) i d ≡ x
+  unfolding nth replace
+  nth-replaced l zero x d h k = absurd (omega arith)
+  nth-replaced l (suc n) x d h k = getD-set-same l n x d k
+
+-- a put on the row of a server that was put before
+pub then-put : {b b₁ b₂ : List ℕ} {i : ℕ} (s : Server) (f : Server → Server) → Within b i → Became b b₁ (withServer (tableIn b) i s)
+    → Became b₁ b₂ (withServer (tableIn b₁) i (f (server (tableIn b₁) i))) → Became b b₂ (withServer (tableIn b) i (f s))
+then-put {b} {b₁} {b₂} {i} s f w h k =
+    let t = tableIn b in
+    let same : withServer (tableIn b₁) i (f (server (tableIn b₁) i)) ≡ withServer t i (f s) =
+    rw (its-table (h .holds), nth-replaced (t .servers) i s absent (w .some) (w .known), replace-twice (t .servers) i s (f s)) in
+    record { holds = rw same at (k .holds); held = k .held; same = k .same ∙ h .same }
+
+pub standing-put : (b b₁ b₂ : List ℕ) (s role v : ℕ) → Within b s → Became b b₁ (withServer (tableIn b) s (withTerm v (server (tableIn b) s)))
+    → Became b₁ b₂ (withServer (tableIn b₁) s (withRole role (server (tableIn b₁) s)))
+    → Became b b₂ (withServer (tableIn b) s (withRole role (withTerm v (server (tableIn b) s))))
+standing-put b b₁ b₂ s role v w h k = then-put (withTerm v (server (tableIn b) s)) (withRole role) w h k
+
+-- ---- what is put of a row that was read
+
+module _ (b b' : List ℕ) (i : ℕ) (a : Row) (e : a ≡ seen (server (tableIn b) i)) where
+  pub spread-put : (j : ℕ) → Became b b' (withServer (tableIn b) j (steppedDown (a .term .0) (server (tableIn b) j)))
+      → Holds b' (spreadAfter (tableIn b) i j)
+  spread-put j h = rw e at (h .holds)
+
+  pub send-put : (j : ℕ)
+      → Became b b' (withServer (tableIn b) j (withConfig (record { set = a .set; version = a .version .0; term = a .config .0 }) (server (tableIn b) j)))
+      → Holds b' (sendAfter (tableIn b) i j)
+  send-put j h = rw e at (h .holds)
+
+  pub reconfigure-put : (m : ℕ)
+      → Became b b' (withServer (tableIn b) i (withConfig (record { set = m; version = a .version .0 + 1; term = a .config .0 }) (server (tableIn b) i)))
+      → Holds b' (reconfigureAfter (tableIn b) i m)
+  reconfigure-put m h = rw e at (h .holds)
+
+  pub write-put : Became b b' (withServer (tableIn b) i (withLog (server (tableIn b) i .log ++ (record { term = a .term .0 } ∷ [])) (server (tableIn b) i)))
+      → Holds b' (writeAfter (tableIn b) i)
+  write-put h = rw e at (h .holds)
+
+  pub fetch-put : (j v : ℕ) → v ≡ termAt (server (tableIn b) j .log) (a .length .0 + 1)
+      → Became b b' (withServer (tableIn b) i (withLog (server (tableIn b) i .log ++ (record { term = v } ∷ [])) (server (tableIn b) i)))
+      → Holds b' (fetchAfter (tableIn b) i j)
+  fetch-put j v f h = rw (f, e) at (h .holds)
+
+  pub commit-put : (q : ℕ) → Became b b' (withMark (tableIn b) (a .length .0) (a .term .0)) → Holds b' (commitAfter (tableIn b) i q)
+  commit-put q h = rw e at (h .holds)
+
+-- ---- the last position of a log that was read
+
+pub last-position : (b : List ℕ) (i : ℕ) (a : Row) → a ≡ seen (server (tableIn b) i) → Held b → 1 ≤ length (server (tableIn b) i .log)
+    → (1 ≤ a .length .0) × (a .length .0 ≤ 64)
+last-position b i a e h l = rw e (l, its-room i h .short)

@@ -1,0 +1,4 @@
+-- Laws of a plan in pieces, and of runs.
+pub mod PieceLaws
+pub mod StepLaws
+pub mod RunLaws

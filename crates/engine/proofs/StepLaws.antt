@@ -1,0 +1,92 @@
+-- Laws of one step: the form is judged, then the action, then it is done. Assumes nothing.
+use Prim.Native.Nat.{ℕ}
+use mathlib.Core.Bool.{Bool, true, false, cond, not}
+use mathlib.Core.Path.{_≡_, refl, sym, _∙_}
+use mathlib.Core.List.{List, [], _∷_, _++_}
+use lib.Dec.{T, eqb}
+use borrow.Author.Tests.{eq-eqb, ne-eqb}
+use mir.Facts.{and-yes, eqb-no}
+use Rattle.members.proofs.Tests.{Fails}
+use Rattle.algorithm.specs.Table.{every, count}
+use Rattle.algorithm.specs.Actions.{Refusal}
+use Rattle.algorithm.specs.Refusals.{formRefusals, ownRefusals, refusals, first, actionOf, after}
+use Rattle.algorithm.specs.Run.{step}
+use Rattle.algorithm.proofs.Kept.{step-sound}
+use Rattle.table.specs.Layout.{tableIn}
+use Rattle.table.specs.Slice.{Holds}
+use Rattle.table.proofs.HeldLaws.{its-table, held}
+use Rattle.engine.specs.Engine.{Ready, Stepped}
+
+-- ---- the first refusal of two lists
+
+first-held : (xs ys : List Refusal) → (first xs ≡ 0 → ⊥) → first (xs ++ ys) ≡ first xs
+unfolding first
+first-held [] ys h = absurd (h refl)
+first-held (r ∷ xs) ys h = go (r .holds) h (first-held xs ys)
+  where
+    go : (b : Bool) → (cond b (r .number) (first xs) ≡ 0 → ⊥) → ((first xs ≡ 0 → ⊥) → first (xs ++ ys) ≡ first xs)
+        → cond b (r .number) (first (xs ++ ys)) ≡ cond b (r .number) (first xs)
+    go true h rest = refl
+    go false h rest = rest h
+
+first-none : (xs ys : List Refusal) → T (every (λ r. not (eqb (r .number) 0)) xs) → first xs ≡ 0 → first (xs ++ ys) ≡ first ys
+unfolding first every
+first-none [] ys p e = refl
+first-none (r ∷ xs) ys p e =
+    let (here, later) = and-yes (not (eqb (r .number) 0)) (every (λ r. not (eqb (r .number) 0)) xs) p in
+    go (r .holds) here e (first-none xs ys later)
+  where
+    go : (b : Bool) → T (not (eqb (r .number) 0)) → cond b (r .number) (first xs) ≡ 0 → (first xs ≡ 0 → first (xs ++ ys) ≡ first ys)
+        → cond b (r .number) (first (xs ++ ys)) ≡ first ys
+    go true here e rest = absurd (eqb-no here e)
+    go false here e rest = rest e
+
+-- ---- one step
+
+module _ (b a : List ℕ) (h : Ready b) (n f : ℕ) (counts : n ≡ count (tableIn b)) (judged : f ≡ first (formRefusals n a)) where
+  form : f ≡ first (formRefusals (count (tableIn b)) a)
+  form = rw (← counts) judged
+
+  -- a table that breaks no rule is judged from 2 on
+  whole : first (refusals (tableIn b) a) ≡ first (formRefusals (count (tableIn b)) a ++ ownRefusals (tableIn b) (actionOf a))
+  unfolding refusals first
+  whole = rw (h .sound)
+
+  formed : f ≡ 0 → first (refusals (tableIn b) a) ≡ first (ownRefusals (tableIn b) (actionOf a))
+  unfolding every
+  formed z = whole ∙ first-none (formRefusals (count (tableIn b)) a) (ownRefusals (tableIn b) (actionOf a)) tt (sym form ∙ z)
+
+  refused : (k : ℕ) → first (refusals (tableIn b) a) ≡ k → (k ≡ 0 → ⊥) → Stepped b a k b
+  unfolding step
+  refused k e n =
+      let z : eqb (first (refusals (tableIn b) a)) 0 ≡ false = rw e (ne-eqb k 0 n) in
+      record { number = sym e; table = rw z (h .held); ready = h }
+
+  pub form-passed : f ≡ 0 → first (formRefusals (count (tableIn b)) a) ≡ 0
+  form-passed z = sym form ∙ z
+
+  pub form-refused : (f ≡ 0 → ⊥) → Stepped b a f b
+  form-refused n =
+      refused f (whole ∙ first-held (formRefusals (count (tableIn b)) a) (ownRefusals (tableIn b) (actionOf a)) (λ z. n (form ∙ z)) ∙ sym form) n
+
+  module _ (fits : f ≡ 0) (k : ℕ) (own : k ≡ first (ownRefusals (tableIn b) (actionOf a))) where
+    pub own-refused : (k ≡ 0 → ⊥) → Stepped b a k b
+    own-refused n = refused k (formed fits ∙ sym own) n
+
+    pub none-refuses : k ≡ 0 → first (refusals (tableIn b) a) ≡ 0
+    none-refuses z = formed fits ∙ sym own ∙ z
+
+    pub taken : (b' : List ℕ) → k ≡ 0 → Holds b' (after (tableIn b) (actionOf a)) → Stepped b a 0 b'
+    unfolding step
+    taken b' z w =
+        let e : first (refusals (tableIn b) a) ≡ 0 = none-refuses z in
+        let done : step (tableIn b) a .table ≡ after (tableIn b) (actionOf a) = rw (eq-eqb (first (refusals (tableIn b) a)) 0 e) in
+        record {
+          number = sym e;
+          table = rw done w;
+          ready = record { held = held w; sound = rw (its-table w, ← done) (unbroken (step-sound (tableIn b) a (record { no = rw (h .sound) tt }))) };
+        }
+      where
+        unbroken : {x : Bool} → Fails x → x ≡ false
+        unbroken {x = true} h = absurd (h .no)
+        unbroken {x = false} h = refl

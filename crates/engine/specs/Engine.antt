@@ -1,0 +1,36 @@
+-- What the engine asks of a slice, and what a step and a run leave in it. Assumes nothing.
+use Prim.Native.Nat.{ℕ, min}
+use mathlib.Core.Bool.{false}
+use mathlib.Core.List.{List, _++_}
+use mathlib.Core.Path.{_≡_}
+use lib.ListN.{length, drop, replicate}
+use Rattle.algorithm.specs.Table.{broken}
+use Rattle.algorithm.specs.Run.{step, pieceCount, runTo}
+use Rattle.table.specs.Layout.{tableIn}
+use Rattle.table.specs.Slice.{Holds, Held}
+
+-- the slice holds a table, and that breaks no rule
+pub record Ready (b : List ℕ) : Type 0 where
+  pub held : Held b
+  pub sound : broken (tableIn b) ≡ false
+
+-- the action a on the slice b is answered k, and leaves b'
+pub record Stepped (b a : List ℕ) (k : ℕ) (b' : List ℕ) : Type 0 where
+  pub number : k ≡ step (tableIn b) a .number
+  pub table : Holds b' (step (tableIn b) a .table)
+  pub ready : Ready b'
+
+-- as many pieces of the plan p are played as there are and as the replies r have room for
+abbrev pub played : List ℕ → List ℕ → ℕ
+played p r = min (pieceCount p) (length r)
+
+-- the plan p on the slice b: k pieces are played, and leave b', and r' of the replies r, of which the rest stays
+pub record Played (b p r : List ℕ) (k : ℕ) (b' r' : List ℕ) : Type 0 where
+  pub count : k ≡ played p r
+  pub replies : r' ≡ runTo (played p r) (tableIn b) p .replies ++ drop (played p r) r
+  pub table : Holds b' (runTo (played p r) (tableIn b) p .table)
+
+-- as many are refused with 1, because the table is broken
+pub record AllRefused (p r : List ℕ) (k : ℕ) (r' : List ℕ) : Type 0 where
+  pub count : k ≡ played p r
+  pub replies : r' ≡ replicate (played p r) 1 ++ drop (played p r) r

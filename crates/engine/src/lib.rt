@@ -1,0 +1,61 @@
+// One action on a table that is whole, and a plan of them.
+ghost use Rattle.algorithm.specs.Reply.{numberOf};
+ghost use Rattle.engine.specs.Engine.{Ready, Stepped, Played, AllRefused};
+use crate::pieces::lesser;
+use crate::pieces::piece_count;
+use crate::pieces::piece_end;
+use algorithm::Reply;
+use algorithm::number;
+use doers::act;
+use judges::action::judge_action;
+use judges::form::judge_form;
+use table::rows::count_of;
+
+pub mod pieces;
+
+// An action is judged, and done if nothing speaks against it.
+pub fn step(t: &mut [u8], a: &[u8]) -> Reply
+    requires { ⌜ Ready (now t) ⌝ }
+    ensures { λ r. ⌜ Stepped (now (t .entry)) (now (a .entry)) (numberOf r) (now (t .exit)) ⌝ }
+{
+    let form = judge_form(count_of(t), a);
+    if form != 0 {
+        return Reply::Refused(form);
+    }
+    let own = judge_action(t, a);
+    if own != 0 {
+        return Reply::Refused(own);
+    }
+    act(t, a);
+    Reply::Taken
+}
+
+// The pieces are played in order, as many as the replies have room for, and answered; how many is told.
+pub fn run(t: &mut [u8], actions: &[u8], replies: &mut [u8]) -> usize
+    requires { ⌜ Ready (now t) ⌝ }
+    ensures { λ r. ⌜ Played (now (t .entry)) (now (actions .entry)) (now (replies .entry)) r (now (t .exit)) (now (replies .exit)) ⌝ }
+{
+    let n = lesser(piece_count(actions), replies.len());
+    let mut at: usize = 0;
+    let mut k: usize = 0;
+    while k < n {
+        let end = piece_end(actions, at);
+        replies[k] = number(step(t, &actions[at..end]));
+        at = end;
+        k += 1;
+    }
+    n
+}
+
+// A broken table refuses every piece.
+pub fn refuse_all(actions: &[u8], replies: &mut [u8]) -> usize
+    ensures { λ r. ⌜ AllRefused (now (actions .entry)) (now (replies .entry)) r (now (replies .exit)) ⌝ }
+{
+    let n = lesser(piece_count(actions), replies.len());
+    let mut k: usize = 0;
+    while k < n {
+        replies[k] = 1;
+        k += 1;
+    }
+    n
+}

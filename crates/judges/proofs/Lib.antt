@@ -1,0 +1,3 @@
+-- The laws of the judges.
+pub mod RefusalLaws
+pub mod FormLaws

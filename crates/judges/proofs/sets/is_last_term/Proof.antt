@@ -1,0 +1,13 @@
+-- `judges::sets::is_last_term` meets its contract. Assumes nothing.
+use borrow.Author.Needs.{needs}
+use Rattle.judges.proofs.sets.is_last_term.Statement.{statement}
+use Rattle.judges.proofs.sets.is_last_term.Tie as tie
+
+term-of-requires : tie.Need-term-of-requires
+term-of-requires c κs = search needs
+
+returns : tie.Need-returns
+returns c = cc
+
+pub is-last-term-spec : {M : Type 1} → statement M
+is-last-term-spec = tie.close (tie.spec term-of-requires returns)

@@ -1,0 +1,13 @@
+-- `judges::sets::is_last_version` meets its contract. Assumes nothing.
+use borrow.Author.Needs.{needs}
+use Rattle.judges.proofs.sets.is_last_version.Statement.{statement}
+use Rattle.judges.proofs.sets.is_last_version.Tie as tie
+
+version-of-requires : tie.Need-version-of-requires
+version-of-requires c κs = search needs
+
+returns : tie.Need-returns
+returns c = cc
+
+pub is-last-version-spec : {M : Type 1} → statement M
+is-last-version-spec = tie.close (tie.spec version-of-requires returns)

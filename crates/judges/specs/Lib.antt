@@ -1,0 +1,2 @@
+-- What the judges promise.
+pub mod Refused

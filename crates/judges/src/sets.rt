@@ -1,0 +1,179 @@
+// Elect, reconfigure and commit: the kinds that look at the servers of a set.
+ghost use mathlib.Core.Path.{_≡_};
+ghost use mathlib.Core.Bool.{false};
+ghost use lib.Dec.{eqb};
+ghost use lib.ListN.{drop};
+ghost use Rattle.members.specs.Members.{majority, oneApart};
+ghost use Rattle.algorithm.specs.Table.{server, ceiling};
+ghost use Rattle.algorithm.specs.Actions.{electRefusals, p1, reconfigureRefusals, commitRefusals};
+ghost use Rattle.algorithm.specs.Refusals.{first};
+ghost use Rattle.table.specs.Layout.{tableIn};
+ghost use Rattle.table.specs.Slice.{Held, Within};
+ghost use Rattle.judges.specs.Refused.{holdsIn};
+use crate::roles::PRIMARY;
+use crate::roles::lacks_role;
+use members::is_majority;
+use members::is_member;
+use members::is_one_apart;
+use questions::figures::last_of;
+use questions::figures::length_of;
+use questions::figures::set_of;
+use questions::figures::term_of;
+use questions::figures::version_of;
+use questions::logs::some_marked;
+use questions::servers::Question;
+use questions::servers::all_pass;
+use questions::servers::most_pass;
+use questions::servers::some_pass;
+use table::rows::mark_of;
+
+// The largest term and the largest version.
+const CEILING: u32 = 1_000_000_000;
+
+fn is_majority_of(t: &[u8], i: usize, q: u16) -> bool
+    requires { ⌜ Held (now t) ⌝ }
+    requires { ⌜ Within (now t) i ⌝ }
+    ensures { λ r. ⌜ r ≡ majority q (server (tableIn (now (t .entry))) i .config .set) ⌝ }
+{
+    is_majority(q, set_of(t, i))
+}
+
+fn is_one_away(t: &[u8], i: usize, m: u16) -> bool
+    requires { ⌜ Held (now t) ⌝ }
+    requires { ⌜ Within (now t) i ⌝ }
+    ensures { λ r. ⌜ r ≡ oneApart (server (tableIn (now (t .entry))) i .config .set) m ⌝ }
+{
+    is_one_apart(set_of(t, i), m)
+}
+
+fn is_last_term(t: &[u8], i: usize) -> bool
+    requires { ⌜ Held (now t) ⌝ }
+    requires { ⌜ Within (now t) i ⌝ }
+    ensures { λ r. ⌜ r ≡ eqb (server (tableIn (now (t .entry))) i .term) ceiling ⌝ }
+{
+    term_of(t, i).0 == CEILING
+}
+
+fn is_last_version(t: &[u8], i: usize) -> bool
+    requires { ⌜ Held (now t) ⌝ }
+    requires { ⌜ Within (now t) i ⌝ }
+    ensures { λ r. ⌜ r ≡ eqb (server (tableIn (now (t .entry))) i .config .version) ceiling ⌝ }
+{
+    version_of(t, i).0 == CEILING
+}
+
+pub fn judge_elect(t: &[u8], i: usize, q: u16) -> u8
+    requires { ⌜ Held (now t) ⌝ }
+    requires { ⌜ Within (now t) i ⌝ }
+    ensures { λ r. ⌜ r ≡ first (electRefusals (tableIn (now (t .entry))) i q) ⌝ }
+{
+    if !(is_majority_of(t, i, q) & is_member(i as u8, q)) {
+        return 7;
+    }
+    if some_pass(t, Question::LargerTerm, i, q) {
+        return 8;
+    }
+    if some_pass(t, Question::NewerConfig, i, q) {
+        return 9;
+    }
+    if some_pass(t, Question::LogAhead, i, q) {
+        return 10;
+    }
+    if is_last_term(t, i) {
+        return 11;
+    }
+    0
+}
+
+// P1.
+fn is_safe(t: &[u8], i: usize) -> bool
+    requires { ⌜ Held (now t) ⌝ }
+    requires { ⌜ Within (now t) i ⌝ }
+    ensures { λ r. ⌜ r ≡ p1 (tableIn (now (t .entry))) i ⌝ }
+{
+    if some_marked(t, i) {
+        return most_pass(t, Question::HoldsCommitted, i);
+    }
+    false
+}
+
+// Refusals 14 to 16, whatever the set.
+fn judge_majorities(t: &[u8], i: usize) -> u8
+    requires { ⌜ Held (now t) ⌝ }
+    requires { ⌜ Within (now t) i ⌝ }
+    ensures { λ r. ⌜ r ≡ first (drop 4 (reconfigureRefusals (tableIn (now (t .entry))) i 0)) ⌝ }
+{
+    if !most_pass(t, Question::SameConfig, i) {
+        return 14;
+    }
+    if !most_pass(t, Question::SameTerm, i) {
+        return 15;
+    }
+    if !is_safe(t, i) {
+        return 16;
+    }
+    0
+}
+
+pub fn judge_reconfigure(t: &[u8], i: usize, m: u16) -> u8
+    requires { ⌜ Held (now t) ⌝ }
+    requires { ⌜ Within (now t) i ⌝ }
+    ensures { λ r. ⌜ r ≡ first (reconfigureRefusals (tableIn (now (t .entry))) i m) ⌝ }
+{
+    if lacks_role(t, i, PRIMARY) {
+        return 6;
+    }
+    if is_last_version(t, i) {
+        return 11;
+    }
+    if !is_member(i as u8, m) {
+        return 12;
+    }
+    if !is_one_away(t, i, m) {
+        return 13;
+    }
+    judge_majorities(t, i)
+}
+
+// Refusal 22, whatever the set.
+fn lacks_entry(t: &[u8], i: usize) -> bool
+    requires { ⌜ Held (now t) ⌝ }
+    requires { ⌜ Within (now t) i ⌝ }
+    ensures { λ r. ⌜ r ≡ holdsIn 22 (commitRefusals (tableIn (now (t .entry))) i 0) ⌝ }
+{
+    (length_of(t, i).0 == 0) | (last_of(t, i).0 != term_of(t, i).0)
+}
+
+// Refusal 24, whatever the set: it is asked where 22 does not hold, so the log has an entry.
+fn is_marked_otherwise(t: &[u8], i: usize) -> bool
+    requires { ⌜ Held (now t) ⌝ }
+    requires { ⌜ Within (now t) i ⌝ }
+    requires { ⌜ holdsIn 22 (commitRefusals (tableIn (now t)) i 0) ≡ false ⌝ }
+    ensures { λ r. ⌜ r ≡ holdsIn 24 (commitRefusals (tableIn (now (t .entry))) i 0) ⌝ }
+{
+    let m = mark_of(t, length_of(t, i));
+    !((m.0 == 0) | (m.0 == term_of(t, i).0))
+}
+
+pub fn judge_commit(t: &[u8], i: usize, q: u16) -> u8
+    requires { ⌜ Held (now t) ⌝ }
+    requires { ⌜ Within (now t) i ⌝ }
+    ensures { λ r. ⌜ r ≡ first (commitRefusals (tableIn (now (t .entry))) i q) ⌝ }
+{
+    if lacks_role(t, i, PRIMARY) {
+        return 6;
+    }
+    if !is_majority_of(t, i, q) {
+        return 7;
+    }
+    if lacks_entry(t, i) {
+        return 22;
+    }
+    if !all_pass(t, Question::HoldsLast, i, q) {
+        return 23;
+    }
+    if is_marked_otherwise(t, i) {
+        return 24;
+    }
+    0
+}

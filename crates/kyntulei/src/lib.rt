@@ -1,0 +1,63 @@
+// The engine for the store's release harness: numbers and byte slices in, a number and filled slices out (include/kyntulei.h).
+ghost use mathlib.Core.Path.{_≡_};
+ghost use Rattle.kyntulei.specs.Promise.{FreshAnswer, StepAnswer, RunAnswer};
+use algorithm::number;
+use engine::refuse_all;
+use engine::run;
+use engine::step;
+use table::check::is_whole;
+use table::check::set_within;
+use table::fill::fill_fresh;
+
+const TABLE_BYTES: usize = 4760;
+
+#[no_mangle]
+pub extern "C" fn kyntulei_table_bytes() -> usize
+    ensures { λ r. ⌜ r ≡ 4760 ⌝ }
+{
+    TABLE_BYTES
+}
+
+#[no_mangle]
+pub extern "C" fn kyntulei_fresh(table: &mut [u8], n: u32, set: u32) -> u32
+    ensures { λ r. ⌜ FreshAnswer (now (table .entry)) n set r (now (table .exit)) ⌝ }
+{
+    if table.len() != TABLE_BYTES {
+        return 1;
+    }
+    if n == 0 {
+        return 32;
+    }
+    if 16 < n {
+        return 32;
+    }
+    if set_within(set, n as u8) {
+        fill_fresh(table, n as u8, set as u16);
+        return 0;
+    }
+    5
+}
+
+// One action: 0 where it is taken, else the refusal's number.
+#[no_mangle]
+pub extern "C" fn kyntulei_step(table: &mut [u8], action: &[u8]) -> u32
+    ensures { λ r. ⌜ StepAnswer (now (table .entry)) (now (action .entry)) r (now (table .exit)) ⌝ }
+{
+    if is_whole(table) {
+        number(step(table, action)) as u32
+    } else {
+        1
+    }
+}
+
+// A plan: how many of its pieces were played, each with its reply.
+#[no_mangle]
+pub extern "C" fn kyntulei_run(table: &mut [u8], actions: &[u8], replies: &mut [u8]) -> u64
+    ensures { λ r. ⌜ RunAnswer (now (table .entry)) (now (actions .entry)) (now (replies .entry)) r (now (table .exit)) (now (replies .exit)) ⌝ }
+{
+    if is_whole(table) {
+        run(table, actions, replies) as u64
+    } else {
+        refuse_all(actions, replies) as u64
+    }
+}

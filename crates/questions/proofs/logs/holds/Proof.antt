@@ -1,0 +1,20 @@
+-- `questions::logs::holds` meets its contract. Assumes nothing.
+use borrow.Author.Needs.{needs}
+use Rattle.questions.proofs.LogLaws.{held-nowhere, held-at}
+use Rattle.questions.proofs.logs.holds.Statement.{statement}
+use Rattle.questions.proofs.logs.holds.Tie as tie
+
+returns : tie.Need-returns
+returns c = search (needs, held-nowhere)
+
+length-of-requires : tie.Need-length-of-requires
+length-of-requires c κs = search needs
+
+entry-of-requires : tie.Need-entry-of-requires
+entry-of-requires c κs = search needs
+
+returns-2 : tie.Need-returns-2
+returns-2 c = search (needs, held-at)
+
+pub holds-spec : {M : Type 1} → statement M
+holds-spec = tie.close (tie.spec returns length-of-requires entry-of-requires returns-2)

@@ -1,0 +1,69 @@
+-- `questions::servers::passing` meets its contract. The loop's invariant: m has those of the servers 1 to k that pass. Assumes nothing.
+use mathlib.Core.Path.{_≡_}
+use Prim.Native.Nat.{_-_, _≤_}
+use native.Mathlib.Omega.{arith}
+use denote.Ref.{now}
+use borrow.Author.Needs.{needs}
+use Rattle.members.specs.Members.{mask}
+use Rattle.algorithm.specs.Table.{count}
+use Rattle.table.specs.Layout.{tableIn}
+use Rattle.questions.specs.Questions.{asked}
+use Rattle.questions.proofs.ServerLaws.{pass-none, pass-fits, pass-next, pass-all}
+use Rattle.questions.proofs.servers.passing.Statement.{statement}
+use Rattle.questions.proofs.servers.passing.Tie as tie
+
+abbrev Inv-loop : tie.InvT-loop
+Inv-loop t question i n m₀ k₀ m k = (k ≤ n) × (n ≡ count (tableIn t)) × (m ≡ mask k (asked question (tableIn t) i))
+
+abbrev μ-loop : tie.MeasureT-loop
+μ-loop t question i n m₀ k₀ m k = n - k
+
+count-of-requires : tie.Need-count-of-requires Inv-loop μ-loop
+count-of-requires c κs = search needs
+
+cast-n : tie.Need-cast-n Inv-loop μ-loop
+cast-n c = search needs
+
+loop-holds : tie.Need-loop-holds Inv-loop μ-loop
+loop-holds c = search (needs, pass-none)
+
+add-answer : tie.Need-add-answer Inv-loop μ-loop
+add-answer c = search needs
+
+answer-requires : tie.Need-answer-requires Inv-loop μ-loop
+answer-requires c κs = search needs
+
+with-next-requires : tie.Need-with-next-requires Inv-loop μ-loop
+with-next-requires c κs = search (needs, pass-fits)
+
+add-k : tie.Need-add-k Inv-loop μ-loop
+add-k c = search needs
+
+loop-less : tie.Need-loop-less Inv-loop μ-loop
+loop-less c = search needs
+
+loop-again : tie.Need-loop-again Inv-loop μ-loop
+loop-again c =
+    let turn = c .before .before in
+    let a = turn .before .before .before .before .args in
+    (search needs, search needs, pass-next (asked (a .question) (tableIn (now (a .t))) (a .i)) _ _ _ _ (turn .before .loop .inv .2) (c .before .answer .ensures) (c .with-next .ensures))
+
+returns : tie.Need-returns Inv-loop μ-loop
+returns c = search (needs, pass-all)
+
+pub passing-spec : {M : Type 1} → statement M
+passing-spec =
+    tie.close
+    (tie.spec
+    Inv-loop
+    μ-loop
+    count-of-requires
+    cast-n
+    loop-holds
+    add-answer
+    answer-requires
+    with-next-requires
+    add-k
+    loop-less
+    loop-again
+    returns)

@@ -1,0 +1,162 @@
+/* Slices of every length but the right one, and what fresh makes of its numbers. */
+#include <stdlib.h>
+#include <string.h>
+
+#include "scene.h"
+
+enum { CANARY = 0xa5 };
+
+/* Of exactly the length asked for, so that a sanitizer sees a touch beyond it; the table's bytes come first. */
+static uint8_t *lend(size_t length, const struct scene *scene)
+{
+    uint8_t *lent = malloc(length == 0 ? 1 : length);
+    if (lent == NULL) {
+        abort();
+    }
+    memset(lent, CANARY, length);
+    memcpy(lent, scene->table, length < TABLE_BYTES ? length : TABLE_BYTES);
+    return lent;
+}
+
+static void table_of_length(const struct engine *engine, size_t length)
+{
+    struct scene scene = ready_scene(engine);
+    uint8_t *lent = lend(length, &scene);
+    uint8_t *before = lend(length, &scene);
+    struct bytes8 action = ready_action(WRITE);
+    check(engine->step(lent, length, action.byte, ACTION_BYTES) == 1, "step on a table of %zu bytes", length);
+    check(engine->step(lent, length, action.byte, 3) == 1, "step of 3 bytes on a table of %zu bytes", length);
+    uint8_t reply = 9;
+    uint64_t played = engine->run(lent, length, action.byte, ACTION_BYTES, &reply, 1);
+    check(played == 1 && reply == 1, "run on a table of %zu bytes", length);
+    check(engine->fresh(lent, length, 3, 7) == 1, "fresh in %zu bytes", length);
+    check(engine->fresh(lent, length, 0, 0) == 1, "fresh of nothing in %zu bytes", length);
+    check(memcmp(lent, before, length) == 0, "a table of %zu bytes stays", length);
+    free(lent);
+    free(before);
+}
+
+static void tables_of_other_lengths(const struct engine *engine)
+{
+    const size_t lengths[] = {0, 1, 4, 280, 4480, 4756, 4759, 4761, 4764, 5040, 9520};
+    for (size_t which = 0; which < sizeof lengths / sizeof *lengths; which++) {
+        table_of_length(engine, lengths[which]);
+    }
+    struct bytes8 action = ready_action(WRITE);
+    check(engine->step(NULL, 0, action.byte, ACTION_BYTES) == 1, "step on no table");
+    check(engine->fresh(NULL, 0, 3, 7) == 1, "fresh in no table");
+    check(engine->table_bytes() == 4760, "a table has 4760 bytes");
+}
+
+static void actions_of_other_lengths(const struct engine *engine)
+{
+    uint8_t action[3 * ACTION_BYTES] = {WRITE, 1};
+    struct scene before = ready_scene(engine);
+    for (size_t length = 0; length <= sizeof action; length++) {
+        struct scene scene = before;
+        uint8_t *lent = malloc(length == 0 ? 1 : length);
+        if (lent == NULL) {
+            abort();
+        }
+        memcpy(lent, action, length);
+        uint32_t reply = engine->step(scene.table, TABLE_BYTES, lent, length);
+        bool stays = memcmp(scene.table, before.table, TABLE_BYTES) == 0;
+        bool is_action = length == ACTION_BYTES;
+        check(reply == (is_action ? 0 : 2), "step with an action of %zu bytes replied %u", length, reply);
+        check(stays != is_action, "step with an action of %zu bytes and the table", length);
+        free(lent);
+    }
+    check(engine->step(before.table, TABLE_BYTES, NULL, 0) == 2, "step with no action");
+}
+
+/* All but the last few bytes of three writes, into room for `room` replies. */
+static void run_of_lengths(const struct engine *engine, size_t actions_len, size_t room)
+{
+    const uint8_t actions[3 * ACTION_BYTES] = {WRITE, 1, 0, 0, 0, 0, 0, 0, WRITE, 1, 0, 0, 0, 0, 0, 0, WRITE, 1};
+    size_t pieces = (actions_len + 7) / ACTION_BYTES;
+    size_t played = pieces < room ? pieces : room;
+    struct scene scene = ready_scene(engine);
+    struct scene after = scene;
+    uint8_t replies[8];
+    uint8_t expected[8];
+    memset(replies, CANARY, sizeof replies);
+    memset(expected, CANARY, sizeof expected);
+    for (size_t piece = 0; piece < played; piece++) {
+        bool is_action = piece < actions_len / ACTION_BYTES;
+        expected[piece] = is_action ? 0 : 2;
+        if (is_action) {
+            put_word(after.table + row_start(1), LOG_LENGTH, (uint32_t)piece + 3);
+            put_word(after.table + row_start(1), ENTRIES + piece + 2, 2);
+        }
+    }
+    uint64_t answer = engine->run(scene.table, TABLE_BYTES, actions, actions_len, replies, room);
+    check(answer == played, "run of %zu bytes with room for %zu: answer", actions_len, room);
+    check(memcmp(replies, expected, sizeof replies) == 0, "run of %zu bytes with room for %zu: replies", actions_len,
+          room);
+    check(memcmp(scene.table, after.table, TABLE_BYTES) == 0, "run of %zu bytes with room for %zu: table",
+          actions_len, room);
+}
+
+static void runs_of_other_lengths(const struct engine *engine)
+{
+    for (size_t actions_len = 0; actions_len <= 3 * ACTION_BYTES; actions_len++) {
+        for (size_t room = 0; room <= 5; room++) {
+            run_of_lengths(engine, actions_len, room);
+        }
+    }
+    struct scene scene = ready_scene(engine);
+    check(engine->run(scene.table, TABLE_BYTES, NULL, 0, NULL, 0) == 0, "run of no actions into no room");
+    check(engine->run(NULL, 0, NULL, 0, NULL, 0) == 0, "run of no actions on no table");
+}
+
+static void runs_on_broken_tables(const struct engine *engine)
+{
+    const uint8_t actions[3 * ACTION_BYTES] = {WRITE, 1, 0, 0, 0, 0, 0, 0, 77};
+    const uint8_t all_ones[4] = {1, 1, 1, CANARY};
+    const uint8_t two_ones[4] = {1, 1, CANARY, CANARY};
+    uint8_t replies[4] = {CANARY, CANARY, CANARY, CANARY};
+    struct scene scene = ready_scene(engine);
+    put_word(scene.table, SPARE, 1);
+    struct scene before = scene;
+    uint64_t played = engine->run(scene.table, TABLE_BYTES, actions, 19, replies, 2);
+    check(played == 2 && memcmp(replies, two_ones, 4) == 0, "run of 19 bytes on a broken table, room for 2");
+    played = engine->run(scene.table, TABLE_BYTES, actions, 19, replies, 4);
+    check(played == 3 && memcmp(replies, all_ones, 4) == 0, "run of 19 bytes on a broken table, room for 4");
+    check(memcmp(scene.table, before.table, TABLE_BYTES) == 0, "run on a broken table leaves it");
+}
+
+static void fresh_replies(const struct engine *engine, uint32_t n, uint32_t set, uint32_t number)
+{
+    struct scene scene = {engine, {0}};
+    memset(scene.table, CANARY, TABLE_BYTES);
+    struct scene after = number == 0 ? fresh_scene(engine, n, set) : scene;
+    uint32_t reply = engine->fresh(scene.table, TABLE_BYTES, n, set);
+    check(reply == number, "fresh of %u servers with set %u replied %u", n, set, reply);
+    check(memcmp(scene.table, after.table, TABLE_BYTES) == 0, "fresh of %u servers with set %u: table", n, set);
+}
+
+static void fresh_tables(const struct engine *engine)
+{
+    for (uint32_t n = 1; n <= MOST_SERVERS; n++) {
+        fresh_replies(engine, n, 1, 0);
+        fresh_replies(engine, n, all_servers(n), 0);
+        fresh_replies(engine, n, only(n), 0);
+        fresh_replies(engine, n, 0, 5);
+        fresh_replies(engine, n, only(n + 1), 5);
+        fresh_replies(engine, n, UINT32_C(1) << 31 | 1, 5);
+    }
+    const uint32_t bad_numbers[] = {0, 17, 32, 33, 256, 257, 65537, UINT32_MAX};
+    for (size_t which = 0; which < sizeof bad_numbers / sizeof *bad_numbers; which++) {
+        fresh_replies(engine, bad_numbers[which], 1, 32);
+        fresh_replies(engine, bad_numbers[which], 0, 32);
+    }
+}
+
+void check_lengths(const struct engine *engine)
+{
+    tables_of_other_lengths(engine);
+    actions_of_other_lengths(engine);
+    runs_of_other_lengths(engine);
+    runs_on_broken_tables(engine);
+    fresh_tables(engine);
+}

@@ -1,0 +1,244 @@
+#include "generate.h"
+
+#include "plain_rules.h"
+
+/* Splitmix64: one word of state, so that a seed alone names a whole comparison. */
+uint64_t draw(struct source *source)
+{
+    source->state += UINT64_C(0x9e3779b97f4a7c15);
+    uint64_t mixed = source->state;
+    mixed = (mixed ^ (mixed >> 30)) * UINT64_C(0xbf58476d1ce4e5b9);
+    mixed = (mixed ^ (mixed >> 27)) * UINT64_C(0x94d049bb133111eb);
+    return mixed ^ (mixed >> 31);
+}
+
+uint32_t below(struct source *source, uint32_t bound)
+{
+    return (uint32_t)((draw(source) >> 32) * bound >> 32);
+}
+
+uint32_t between(struct source *source, uint32_t least, uint32_t most)
+{
+    return least + below(source, most - least + 1);
+}
+
+bool chance(struct source *source, uint32_t percent)
+{
+    return below(source, 100) < percent;
+}
+
+/* Plans of one temper only would all end in the same few situations. */
+struct temper draw_temper(struct source *source)
+{
+    const struct { uint32_t least, most; } weights[COMMIT + 1] = {
+        [ELECT] = {1, 10}, [RECONFIGURE] = {20, 100}, [SEND] = {20, 80},      [SPREAD] = {5, 40},
+        [WRITE] = {5, 40}, [FETCH] = {40, 120},       [ROLL_BACK] = {10, 40}, [COMMIT] = {10, 50},
+    };
+    struct temper temper = {.missing = between(source, 2, 25)};
+    temper.spoiled = between(source, 2, 20);
+    for (uint32_t kind = ELECT; kind <= COMMIT; kind++) {
+        temper.weight[kind] = between(source, weights[kind].least, weights[kind].most);
+    }
+    return temper;
+}
+
+/* Drawn one after another and not within one call, where C leaves the order open: with another compiler a seed would
+ * then name another plan. */
+void draw_blind_action(struct source *source, uint32_t n, uint8_t *action)
+{
+    uint32_t kind = below(source, COMMIT + 2);
+    uint32_t i = between(source, 1, n);
+    uint32_t j = below(source, n + 2);
+    uint32_t set = (uint32_t)draw(source);
+    if (chance(source, 5)) {
+        i = below(source, 256);
+    }
+    if (chance(source, 90)) {
+        set &= all_servers(n);
+    }
+    bool has_j = names_j(kind) != chance(source, 5);
+    bool has_set = names_set(kind) != chance(source, 5);
+    put_action(action, kind, i, has_j ? j : 0, has_set ? set : 0);
+}
+
+static uint32_t draw_kind(struct source *source, const struct temper *temper)
+{
+    uint32_t total = 0;
+    for (uint32_t kind = ELECT; kind <= COMMIT; kind++) {
+        total += temper->weight[kind];
+    }
+    uint32_t left = below(source, total);
+    uint32_t kind = ELECT;
+    while (left >= temper->weight[kind]) {
+        left -= temper->weight[kind];
+        kind++;
+    }
+    return kind;
+}
+
+static uint32_t willing_voters(const uint8_t *table, uint32_t i)
+{
+    const uint8_t *candidate = table + row_start(i);
+    uint32_t found = 0;
+    for (uint32_t rest = word(candidate, SET); rest != 0; rest &= rest - 1) {
+        if (plain_objection(candidate, table + row_start(lowest_server(rest))) == TAKEN) {
+            found |= rest & -rest;
+        }
+    }
+    return found;
+}
+
+static uint32_t supporters(const uint8_t *table, uint32_t i)
+{
+    const uint8_t *primary = table + row_start(i);
+    uint32_t found = 0;
+    if (word(primary, LOG_LENGTH) == 0) {
+        return found;
+    }
+    for (uint32_t rest = word(primary, SET); rest != 0; rest &= rest - 1) {
+        if (plain_supports(primary, table + row_start(lowest_server(rest)))) {
+            found |= rest & -rest;
+        }
+    }
+    return found;
+}
+
+/* Refusals that are reached only by an action with nothing else amiss. */
+static bool is_near(uint32_t reply)
+{
+    return reply >= LARGER_TERM && reply != LEAVES_OUT_ITSELF && reply != NOT_ONE_SERVER;
+}
+
+/* An action of its kind at i that may be taken or just miss. Where no second server is named, `other` tells apart
+ * what there is to offer: a vote by those who are for it, and by all. */
+static bool shape_action(const uint8_t *table, uint32_t i, uint32_t other, struct action *action)
+{
+    uint32_t set = word(table + row_start(i), SET);
+    action->i = i;
+    switch (action->kind) {
+    case ELECT:
+        action->set = other == 1 ? willing_voters(table, i) : set;
+        return other <= 2;
+    case RECONFIGURE:
+        action->set = set ^ only(other);
+        return true;
+    case WRITE:
+        return other == 1;
+    case COMMIT:
+        action->set = other == 1 ? supporters(table, i) : set;
+        return other <= 2;
+    default:
+        action->j = other;
+        return true;
+    }
+}
+
+/* Each action that will do is chosen with the same chance, without a list of them. */
+static bool choose_action(struct source *source, const uint8_t *table, uint32_t kind, bool to_be_taken,
+                          struct action *chosen)
+{
+    uint32_t n = word(table, SERVERS);
+    uint32_t found = 0;
+    for (uint32_t i = 1; i <= n; i++) {
+        for (uint32_t other = 1; other <= n; other++) {
+            struct action action = {.kind = kind};
+            if (!shape_action(table, i, other, &action)) {
+                continue;
+            }
+            uint32_t reply = plain_judge(table, &action);
+            if (to_be_taken ? reply == TAKEN : is_near(reply)) {
+                found++;
+                if (below(source, found) == 0) {
+                    *chosen = action;
+                }
+            }
+        }
+    }
+    return found > 0;
+}
+
+/* Voting by all who would is the rare case; a bare majority is what proofs and mistakes turn on. */
+static void thin_voters(struct source *source, const uint8_t *table, struct action *action)
+{
+    if (action->kind != ELECT && action->kind != COMMIT) {
+        return;
+    }
+    uint32_t reply = plain_judge(table, action);
+    for (uint32_t tries = below(source, 16); tries > 0; tries--) {
+        struct action thinner = *action;
+        thinner.set &= ~only(between(source, 1, word(table, SERVERS)));
+        if (thinner.set != 0 && plain_judge(table, &thinner) == reply) {
+            *action = thinner;
+        }
+    }
+}
+
+static void spoil_action(struct source *source, uint32_t n, uint8_t *action)
+{
+    bool has_set = (action[4] | action[5]) != 0;
+    uint32_t server = below(source, n);
+    uint32_t bit = below(source, 8);
+    switch (below(source, 12)) {
+    case 0:
+        action[0] = (uint8_t)below(source, COMMIT + 2);
+        break;
+    case 1:
+        action[below(source, ACTION_BYTES)] ^= (uint8_t)(1U << bit);
+        break;
+    case 2:
+    case 3:
+    case 4:
+        action[1] = (uint8_t)(server + 1);
+        break;
+    default:
+        if (has_set) {
+            action[4 + server / 8] ^= (uint8_t)(1U << server % 8);
+        } else {
+            action[2] = (uint8_t)(server + 1);
+        }
+        break;
+    }
+}
+
+/* Every kind gets its turn before the search is given up: were it given up sooner, a plan would be made of blind
+ * actions just where few kinds are possible. */
+static bool find_action(struct source *source, const struct temper *temper, const uint8_t *table,
+                        struct action *action)
+{
+    bool to_be_taken = !chance(source, temper->missing);
+    struct temper untried = *temper;
+    for (uint32_t kind = ELECT; !to_be_taken && kind <= COMMIT; kind++) {
+        untried.weight[kind] = 1;
+    }
+    bool found = false;
+    for (uint32_t tries = ELECT; !found && tries <= COMMIT; tries++) {
+        uint32_t kind = draw_kind(source, &untried);
+        untried.weight[kind] = 0;
+        found = choose_action(source, table, kind, to_be_taken, action);
+    }
+    return found;
+}
+
+void draw_guided_action(struct source *source, const struct temper *temper, const uint8_t *table, uint8_t *bytes)
+{
+    uint32_t n = word(table, SERVERS);
+    struct action action;
+    if (!find_action(source, temper, table, &action)) {
+        draw_blind_action(source, n, bytes);
+        return;
+    }
+    thin_voters(source, table, &action);
+    put_action(bytes, action.kind, action.i, action.j, action.set);
+    if (chance(source, temper->spoiled)) {
+        spoil_action(source, n, bytes);
+    }
+}
+
+void draw_guided_plan(struct source *source, const struct temper *temper, uint8_t *table, size_t count,
+                      uint8_t *actions)
+{
+    for (size_t piece = 0; piece < count; piece++) {
+        draw_guided_action(source, temper, table, actions + ACTION_BYTES * piece);
+        plain_play(table, actions + ACTION_BYTES * piece);
+    }
+}

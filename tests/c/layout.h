@@ -1,0 +1,94 @@
+/* Where each figure of a table stands in its slice, for the plain engine and for the tests alike. */
+#ifndef LAYOUT_H
+#define LAYOUT_H
+
+#include <stdbool.h>
+#include <stddef.h>
+#include <stdint.h>
+#include <string.h>
+
+enum {
+    MOST_SERVERS = 16,
+    MOST_ENTRIES = 64,
+    CEILING = 1000000000,
+    ROW_WORDS = 70,
+    ROW_BYTES = 4 * ROW_WORDS,
+    TABLE_BYTES = (1 + MOST_SERVERS) * ROW_BYTES,
+    ACTION_BYTES = 8
+};
+
+/* Row 0. */
+enum { SERVERS = 0, SPARE = 1, MARKS = 6 };
+
+/* A server's row. */
+enum { ROLE, TERM, SET, VERSION, CONFIG_TERM, LOG_LENGTH, ENTRIES };
+
+enum { SECONDARY, PRIMARY };
+
+enum { ELECT = 1, RECONFIGURE, SEND, SPREAD, WRITE, FETCH, ROLL_BACK, COMMIT };
+
+/* All kinds name i. */
+static inline bool names_j(uint32_t kind)
+{
+    return kind == SEND || kind == SPREAD || kind == FETCH || kind == ROLL_BACK;
+}
+
+static inline bool names_set(uint32_t kind)
+{
+    return kind == ELECT || kind == RECONFIGURE || kind == COMMIT;
+}
+
+static inline size_t row_start(uint32_t server)
+{
+    return (size_t)server * ROW_BYTES;
+}
+
+/* A load and a store are then one instruction each; assembled from bytes, gcc finds that out in some places only. */
+_Static_assert(__BYTE_ORDER__ == __ORDER_LITTLE_ENDIAN__, "words of a slice are copied as they stand");
+
+static inline uint32_t word(const uint8_t *row, size_t column)
+{
+    uint32_t value;
+    memcpy(&value, row + 4 * column, sizeof value);
+    return value;
+}
+
+static inline void put_word(uint8_t *row, size_t column, uint32_t value)
+{
+    memcpy(row + 4 * column, &value, sizeof value);
+}
+
+static inline void put_action(uint8_t *bytes, uint32_t kind, uint32_t i, uint32_t j, uint32_t set)
+{
+    bytes[0] = (uint8_t)kind;
+    bytes[1] = (uint8_t)i;
+    bytes[2] = (uint8_t)j;
+    bytes[3] = 0;
+    bytes[4] = (uint8_t)set;
+    bytes[5] = (uint8_t)(set >> 8);
+    bytes[6] = 0;
+    bytes[7] = 0;
+}
+
+static inline uint32_t only(uint32_t server)
+{
+    return UINT32_C(1) << (server - 1);
+}
+
+static inline uint32_t all_servers(uint32_t n)
+{
+    return (UINT32_C(1) << n) - 1;
+}
+
+static inline uint32_t lowest_server(uint32_t set)
+{
+    return (uint32_t)__builtin_ctz(set) + 1;
+}
+
+static inline uint32_t last_entry(const uint8_t *row)
+{
+    uint32_t length = word(row, LOG_LENGTH);
+    return length == 0 ? 0 : word(row, ENTRIES + length - 1);
+}
+
+#endif

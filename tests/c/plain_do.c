@@ -1,0 +1,94 @@
+#include "plain_rules.h"
+
+#include "layout.h"
+
+static void do_elect(uint8_t *table, const struct action *action)
+{
+    uint8_t *winner = table + row_start(action->i);
+    uint32_t term = word(winner, TERM) + 1;
+    for (uint32_t rest = action->set; rest != 0; rest &= rest - 1) {
+        uint8_t *voter = table + row_start(lowest_server(rest));
+        put_word(voter, TERM, term);
+        put_word(voter, ROLE, SECONDARY);
+    }
+    put_word(winner, ROLE, PRIMARY);
+    put_word(winner, CONFIG_TERM, term);
+}
+
+static void do_reconfigure(uint8_t *primary, uint32_t set)
+{
+    put_word(primary, SET, set);
+    put_word(primary, VERSION, word(primary, VERSION) + 1);
+}
+
+static void do_send(const uint8_t *sender, uint8_t *receiver)
+{
+    put_word(receiver, SET, word(sender, SET));
+    put_word(receiver, VERSION, word(sender, VERSION));
+    put_word(receiver, CONFIG_TERM, word(sender, CONFIG_TERM));
+}
+
+static void do_spread(const uint8_t *from, uint8_t *to)
+{
+    put_word(to, TERM, word(from, TERM));
+    put_word(to, ROLE, SECONDARY);
+}
+
+static void append(uint8_t *row, uint32_t entry)
+{
+    uint32_t length = word(row, LOG_LENGTH);
+    put_word(row, ENTRIES + length, entry);
+    put_word(row, LOG_LENGTH, length + 1);
+}
+
+static void do_roll_back(uint8_t *row)
+{
+    uint32_t length = word(row, LOG_LENGTH) - 1;
+    put_word(row, ENTRIES + length, 0);
+    put_word(row, LOG_LENGTH, length);
+}
+
+void plain_do(uint8_t *table, const struct action *action)
+{
+    uint8_t *row = table + row_start(action->i);
+    uint8_t *other = table + row_start(action->j);
+    switch (action->kind) {
+    case ELECT:
+        do_elect(table, action);
+        break;
+    case RECONFIGURE:
+        do_reconfigure(row, action->set);
+        break;
+    case SEND:
+        do_send(row, other);
+        break;
+    case SPREAD:
+        do_spread(row, other);
+        break;
+    case WRITE:
+        append(row, word(row, TERM));
+        break;
+    case FETCH:
+        append(row, word(other, ENTRIES + word(row, LOG_LENGTH)));
+        break;
+    case ROLL_BACK:
+        do_roll_back(row);
+        break;
+    default:
+        put_word(table, MARKS + word(row, LOG_LENGTH) - 1, word(row, TERM));
+        break;
+    }
+}
+
+uint32_t plain_play(uint8_t *table, const uint8_t *bytes)
+{
+    struct action action;
+    uint32_t reply = plain_parse(bytes, word(table, SERVERS), &action);
+    if (reply == TAKEN) {
+        reply = plain_judge(table, &action);
+    }
+    if (reply == TAKEN) {
+        plain_do(table, &action);
+    }
+    return reply;
+}

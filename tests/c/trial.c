@@ -1,0 +1,169 @@
+#include "trial.h"
+
+#include <stdbool.h>
+#include <stdio.h>
+#include <string.h>
+
+enum { CANARY = 0xa5 };
+
+/* The guard shows a write past the table's end. */
+struct guarded_table {
+    uint8_t table[TABLE_BYTES];
+    uint8_t guard[64];
+};
+
+static struct guarded_table guarded(const struct trial *trial)
+{
+    struct guarded_table copy;
+    memcpy(copy.table, trial->start, TABLE_BYTES);
+    memset(copy.guard, CANARY, sizeof copy.guard);
+    return copy;
+}
+
+size_t trial_pieces(const struct trial *trial)
+{
+    return (trial->actions_len + ACTION_BYTES - 1) / ACTION_BYTES;
+}
+
+size_t trial_piece_bytes(const struct trial *trial, size_t piece)
+{
+    size_t left = trial->actions_len - ACTION_BYTES * piece;
+    return left < ACTION_BYTES ? left : ACTION_BYTES;
+}
+
+static uint32_t play_piece(const struct engine *engine, const struct trial *trial, size_t piece, uint8_t *table)
+{
+    return engine->step(table, TABLE_BYTES, trial->actions + ACTION_BYTES * piece, trial_piece_bytes(trial, piece));
+}
+
+static const char *steps_difference(const struct trial *trial, const struct engine *one, const struct engine *other,
+                                    struct outcome *outcome)
+{
+    struct guarded_table ones = guarded(trial);
+    struct guarded_table others = guarded(trial);
+    memcpy(outcome->table_of_run, trial->start, TABLE_BYTES);
+    outcome->pieces = trial_pieces(trial);
+    for (size_t piece = 0; piece < outcome->pieces; piece++) {
+        uint8_t before[TABLE_BYTES];
+        memcpy(before, ones.table, TABLE_BYTES);
+        uint32_t reply = play_piece(one, trial, piece, ones.table);
+        if (play_piece(other, trial, piece, others.table) != reply) {
+            return "replies of step";
+        }
+        if (reply >= NUMBERS) {
+            return "a reply of step and the numbers there are";
+        }
+        if (memcmp(&ones, &others, sizeof ones) != 0) {
+            return "tables after step";
+        }
+        if (reply != 0 && memcmp(before, ones.table, TABLE_BYTES) != 0) {
+            return "tables before and after a refusal";
+        }
+        outcome->replies[piece] = (uint8_t)reply;
+        if (piece < trial->room) {
+            memcpy(outcome->table_of_run, ones.table, TABLE_BYTES);
+        }
+    }
+    return NULL;
+}
+
+/* A run is held against the steps, which both engines have agreed upon. */
+static const char *run_difference(const struct trial *trial, const struct engine *engine,
+                                  const struct outcome *outcome)
+{
+    struct guarded_table table = guarded(trial);
+    struct guarded_table expected = table;
+    memcpy(expected.table, outcome->table_of_run, TABLE_BYTES);
+    uint8_t replies[MOST_ROOM];
+    uint8_t expected_replies[MOST_ROOM];
+    memset(replies, CANARY, sizeof replies);
+    memset(expected_replies, CANARY, sizeof expected_replies);
+    size_t played = outcome->pieces < trial->room ? outcome->pieces : trial->room;
+    memcpy(expected_replies, outcome->replies, played);
+
+    uint64_t answer = engine->run(table.table, TABLE_BYTES, trial->actions, trial->actions_len, replies, trial->room);
+    if (answer != played) {
+        return "answers of run";
+    }
+    if (memcmp(replies, expected_replies, sizeof replies) != 0) {
+        return "replies of run";
+    }
+    return memcmp(&table, &expected, sizeof table) != 0 ? "tables after run" : NULL;
+}
+
+const char *trial_difference(const struct trial *trial, const struct engine *one, const struct engine *other,
+                             struct outcome *outcome)
+{
+    const char *difference = steps_difference(trial, one, other, outcome);
+    if (difference == NULL) {
+        difference = run_difference(trial, one, outcome);
+    }
+    if (difference == NULL) {
+        difference = run_difference(trial, other, outcome);
+    }
+    return difference;
+}
+
+static struct trial without_piece(const struct trial *trial, size_t piece)
+{
+    struct trial smaller = *trial;
+    size_t from = ACTION_BYTES * piece;
+    size_t dropped = trial_piece_bytes(trial, piece);
+    memmove(smaller.actions + from, smaller.actions + from + dropped, trial->actions_len - from - dropped);
+    smaller.actions_len -= dropped;
+    return smaller;
+}
+
+void trial_shrink(struct trial *trial, const struct engine *one, const struct engine *other)
+{
+    bool smaller = true;
+    while (smaller) {
+        smaller = false;
+        for (size_t piece = trial_pieces(trial); piece-- > 0;) {
+            struct trial candidate = without_piece(trial, piece);
+            struct outcome outcome;
+            if (trial_difference(&candidate, one, other, &outcome) != NULL) {
+                *trial = candidate;
+                smaller = true;
+            }
+        }
+    }
+}
+
+/* Words as they stand, because a broken table has no servers to speak of. */
+static void print_table(const uint8_t *table)
+{
+    for (uint32_t row = 0; row <= MOST_SERVERS; row++) {
+        const uint8_t *words = table + row_start(row);
+        size_t end = ROW_WORDS;
+        while (end > 0 && word(words, end - 1) == 0) {
+            end--;
+        }
+        printf("  row %2u:", row);
+        for (size_t column = 0; column < end; column++) {
+            printf(" %u", word(words, column));
+        }
+        putchar('\n');
+    }
+}
+
+void trial_print(const struct trial *trial, const struct engine *one, const struct engine *other)
+{
+    struct guarded_table ones = guarded(trial);
+    struct guarded_table others = guarded(trial);
+    puts("table before (words of each row, to the last that is not 0):");
+    print_table(ones.table);
+    printf("plan, with room for %zu replies (bytes of each action; reply by %s, by %s):\n", trial->room, one->name,
+           other->name);
+    for (size_t piece = 0; piece < trial_pieces(trial); piece++) {
+        for (size_t index = 0; index < trial_piece_bytes(trial, piece); index++) {
+            printf(" %3u", trial->actions[ACTION_BYTES * piece + index]);
+        }
+        uint32_t reply = play_piece(one, trial, piece, ones.table);
+        printf("   %u, %u\n", reply, play_piece(other, trial, piece, others.table));
+    }
+    printf("table after the steps by %s:\n", one->name);
+    print_table(ones.table);
+    printf("table after the steps by %s:\n", other->name);
+    print_table(others.table);
+}
