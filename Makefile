@@ -2,7 +2,7 @@
 
 ARCHIVE = target/staticlib/libkyntulei.a
 
-.PHONY: help test c-tests bench
+.PHONY: help test c-tests bench archive
 
 help:
 	@echo "make test     the gate: proves every crate from nothing, tries every must-fail edit, runs every test"
@@ -19,6 +19,6 @@ bench: archive
 	@tests/need bench
 	@$(MAKE) --no-print-directory -s -C tests count ENGINE=$(abspath $(ARCHIVE))
 
-.PHONY: archive
 archive:
+	@mkdir -p target
 	@rt staticlib kyntulei >target/staticlib.log 2>&1 || { cat target/staticlib.log; exit 1; }

@@ -24,7 +24,7 @@ held {b} {t} h = subst (λ (x : Table). Holds b x) (sym (its-table h)) h
 
 -- ---- servers keep their room
 
-roomy-at : (ss : List Server) (i : ℕ) → AllRoomy ss → Roomy (nth ss i absent)
+pub roomy-at : (ss : List Server) (i : ℕ) → AllRoomy ss → Roomy (nth ss i absent)
 unfolding nth
 roomy-at ss zero h = record { short = omega arith; small = omega arith }
 roomy-at [] (suc i) h = record { short = omega arith; small = omega arith }

@@ -12,7 +12,7 @@ use Rattle.table.specs.Slice.{AllRoomy, Shaped}
 
 -- ---- lengths
 
-length-padded : (k : ℕ) (l : List ℕ) → length (padded k l) ≡ k
+pub length-padded : (k : ℕ) (l : List ℕ) → length (padded k l) ≡ k
 unfolding padded
 length-padded zero l = refl
 length-padded (suc k) [] = ap suc (length-padded k [])

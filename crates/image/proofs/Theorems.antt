@@ -1,0 +1,43 @@
+-- What the reader's contract amounts to. Assumes nothing.
+use Prim.Native.Nat.{ℕ}
+use mathlib.Core.Path.{_≡_, refl, ap, sym, _∙_}
+use mathlib.Core.Bool.{false}
+use mathlib.Core.List.{List, _++_}
+use lib.ListN.{length}
+use borrow.Author.Tests.{not-true}
+use Rattle.algorithm.specs.Table.{Table, broken}
+use Rattle.algorithm.proofs.Sound.{sound-table}
+use Rattle.table.specs.Layout.{stored}
+use Rattle.table.proofs.BoolLaws.{is-true}
+use Rattle.image.specs.Image.{image}
+use Rattle.image.specs.Reader.{readReply, readTable, readBytes, endAfter}
+use Rattle.image.proofs.ReplyLaws.{read-into, read-upto}
+use Rattle.image.proofs.SoundRead.{read-sound}
+use Rattle.image.proofs.ReadBack.{number-back, table-back, end-back}
+
+-- Whatever bytes are read as a table, the table breaks no rule.
+pub not-broken : (im slice : List ℕ) → readReply im slice ≡ 0 → broken (readTable im) ≡ false
+not-broken im slice e = not-true (broken (readTable im)) (is-true _ (sound-table (read-sound im slice e) .no))
+
+-- The image of a table that breaks no rule, whatever bytes follow it, is read as that table: it is not refused, the slice has the
+-- table's bytes afterwards, and the end is where the image ends.
+pub read-back : (t : Table) (rest slice : List ℕ) (e : ℕ) → broken t ≡ false → length slice ≡ 4760
+    → (readReply (image t ++ rest) slice ≡ 0)
+    × (readTable (image t ++ rest) ≡ t)
+    × (readBytes (image t ++ rest) slice ≡ stored t)
+    × (endAfter (image t ++ rest) slice e ≡ length (image t))
+read-back t rest slice e h sized =
+    let im = image t ++ rest in
+    let read = sym (number-back t h rest slice sized) in (
+      sym read,
+      table-back t h rest,
+      read-into im slice 0 read refl ∙ ap stored (table-back t h rest),
+      read-upto im slice 0 read refl e ∙ end-back t h rest,
+    )
+
+-- Two answers that meet the contract for one image, one slice and one end are the same answer.
+pub unique : (im slice : List ℕ) (e r r' : ℕ) (b b' : List ℕ) (z z' : ℕ)
+    → (r ≡ readReply im slice) × (b ≡ readBytes im slice) × (z ≡ endAfter im slice e)
+    → (r' ≡ readReply im slice) × (b' ≡ readBytes im slice) × (z' ≡ endAfter im slice e)
+    → (r ≡ r') × (b ≡ b') × (z ≡ z')
+unique im slice e r r' b b' z z' (p, q, u) (p', q', u') = (p ∙ sym p', q ∙ sym q', u ∙ sym u')

@@ -1,0 +1,52 @@
+-- The image of a table: the opening, the contents, the bodies. Assumes nothing.
+use Prim.Native.Nat.{ℕ, zero, suc, _+_, _*_, _/_, _%_}
+use mathlib.Core.List.{List, [], _∷_, _++_, map, flatten}
+use lib.ListN.{length}
+use Rattle.algorithm.specs.Table.{Server, Table, count}
+use Rattle.table.specs.Words.{bytes}
+use Rattle.table.specs.Layout.{terms}
+
+-- a number in two bytes, the low byte first
+abbrev pub half : ℕ → List ℕ
+half v = v % 256 ∷ v / 256 % 256 ∷ []
+
+-- the letters SITE, the number of servers, three 0
+abbrev pub opening : ℕ → List ℕ
+opening n = 83 ∷ 73 ∷ 84 ∷ 69 ∷ n ∷ 0 ∷ 0 ∷ 0 ∷ []
+
+-- a mark put before marks that do not end with 0, so that they still do not: 0 before none is none
+abbrev pub kept : ℕ → List ℕ → List ℕ
+kept zero [] = []
+kept (suc m) [] = suc m ∷ []
+kept m (x ∷ l) = m ∷ x ∷ l
+
+-- the marks without the 0 at their end
+unfoldable pub trimmed : List ℕ → List ℕ
+trimmed [] = []
+trimmed (m ∷ ms) = kept m (trimmed ms)
+
+-- the marks in four bytes each
+abbrev pub marksBody : List ℕ → List ℕ
+marksBody ms = bytes (trimmed ms)
+
+-- role, 0, set in two bytes; term, version, configuration term and the entries in four bytes each
+abbrev pub serverBody : Server → List ℕ
+serverBody s =
+    s .role ∷ 0 ∷ (half (s .config .set) ++ bytes (s .term ∷ s .config .version ∷ s .config .term ∷ terms (s .log)))
+
+-- the marks' body, then those of the servers in order
+abbrev pub bodies : Table → List (List ℕ)
+bodies t = marksBody (t .marks) ∷ map serverBody (t .servers)
+
+-- the entries of bodies that follow one another from an offset on: for each its offset and its length
+unfoldable pub contents : ℕ → List (List ℕ) → List ℕ
+contents at [] = []
+contents at (b ∷ bs) = half at ++ (half (length b) ++ contents (at + length b) bs)
+
+-- where the first body begins, in an image of n servers
+abbrev pub firstBody : ℕ → ℕ
+firstBody n = 12 + 4 * n
+
+-- the opening, the contents, and the bodies one after another
+unfoldable pub image : Table → List ℕ
+image t = opening (count t) ++ (contents (firstBody (count t)) (bodies t) ++ flatten (bodies t))

@@ -1,0 +1,51 @@
+-- The reader: its refusals, and what it gives where none holds. Assumes nothing.
+use Prim.Native.Nat.{ℕ, zero, suc}
+use mathlib.Core.Bool.{cond, not}
+use mathlib.Core.List.{List, [], _∷_, _++_}
+use lib.Dec.{ltb, eqb}
+use lib.ListN.{length}
+use Rattle.algorithm.specs.Table.{Server, Table}
+use Rattle.algorithm.specs.Actions.{Refusal, refuse}
+use Rattle.algorithm.specs.Refusals.{first}
+use Rattle.table.specs.Layout.{stored}
+use Rattle.image.specs.Parts.{opened, countIn, counted, stop, laidOut, body, marksIn, serverIn, soundBodies}
+
+-- the refusals for an image and the slice that a table is to be read into
+abbrev pub readRefusals : List ℕ → List ℕ → List Refusal
+readRefusals im slice =
+    refuse 1 (not (eqb (length slice) 4760))
+    ∷ refuse 30 (ltb (length im) 8)
+    ∷ refuse 31 (not (opened im))
+    ∷ refuse 32 (not (counted im))
+    ∷ refuse 33 (not (laidOut im))
+    ∷ refuse 34 (not (soundBodies im))
+    ∷ []
+
+-- the number of the first that holds, or 0: read
+unfoldable pub readReply : List ℕ → List ℕ → ℕ
+readReply im slice = first (readRefusals im slice)
+
+-- the first k servers
+unfoldable pub serversTo : ℕ → List ℕ → List Server
+serversTo zero im = []
+serversTo (suc k) im = serversTo k im ++ (serverIn (body im (suc k)) ∷ [])
+
+-- the table
+abbrev pub readTable : List ℕ → Table
+readTable im = record { servers = serversTo (countIn im) im; marks = marksIn (body im 0) }
+
+-- where the bytes after the image begin
+abbrev pub readEnd : List ℕ → ℕ
+readEnd im = stop im (countIn im)
+
+-- a where the image is read, and b where it is refused
+abbrev pub ifRead : {A : Type 0} → List ℕ → List ℕ → A → A → A
+ifRead im slice a b = cond (eqb (readReply im slice) 0) a b
+
+-- the slice afterwards: refused, it is as it was
+abbrev pub readBytes : List ℕ → List ℕ → List ℕ
+readBytes im slice = ifRead im slice (stored (readTable im)) slice
+
+-- the end afterwards, likewise
+abbrev pub endAfter : List ℕ → List ℕ → ℕ → ℕ
+endAfter im slice e = ifRead im slice (readEnd im) e

@@ -1,0 +1,72 @@
+-- What the parts of a line make when they are written one behind another. Assumes nothing.
+use Prim.Native.Nat.{ℕ, zero, suc}
+use native.Mathlib.Omega.{arith}
+use mathlib.Core.Path.{_≡_, refl}
+use mathlib.Core.List.{List, _++_}
+use lib.ListN.{take}
+use borrow.Author.Tests.{eq-eqb, ne-eqb}
+use Rattle.table.specs.declared.rows.Row.{Row}
+use Rattle.report.specs.Lines.{text, decimal, field, fields, reply, repliedLine, cutLine, badSiteLine, tooLongLine, letter, figures, shownRow, marksLine}
+use Rattle.report.specs.Buffer.{Wrote, WroteShort, Filled, Through}
+use Rattle.report.proofs.WroteLaws.{then, filled}
+
+-- ---- parts of a line
+
+module _ (b b₁ : List ℕ) (at e : ℕ) where
+  pub taken : (r : ℕ) → r ≡ 0 → Wrote b b₁ at (text " taken") e → WroteShort 19 b b₁ at (reply r) e
+  unfolding reply
+  taken r h w = record { wrote = rw h w; short = omega (arith, w .end) }
+
+  pub primary : (r : ℕ) → r ≡ 1 → Wrote b b₁ at (text " P") e → WroteShort 2 b b₁ at (letter r) e
+  unfolding letter
+  primary r h w = record { wrote = rw (eq-eqb r 1 h) w; short = omega (arith, w .end) }
+
+  pub secondary : (r : ℕ) → (r ≡ 1 → ⊥) → Wrote b b₁ at (text " S") e → WroteShort 2 b b₁ at (letter r) e
+  unfolding letter
+  secondary r h w = record { wrote = rw (ne-eqb r 1 h) w; short = omega (arith, w .end) }
+
+module _ (b b₁ b₂ : List ℕ) (at d e : ℕ) where
+  pub a-field : (v : ℕ) → Wrote b b₁ at (text " ") d → WroteShort 10 b₁ b₂ d (decimal v) e → WroteShort 11 b b₂ at (field v) e
+  unfolding field
+  a-field v s w = record { wrote = then s (w .wrote); short = omega (arith, s .end, w .short) }
+
+  pub refused : (r : ℕ) → (r ≡ 0 → ⊥) → Wrote b b₁ at (text " refused") d → WroteShort 11 b₁ b₂ d (field r) e → WroteShort 19 b b₂ at (reply r) e
+  unfolding reply
+  refused zero h w f = absurd (h refl)
+  refused (suc r) h w f = record { wrote = then w (f .wrote); short = omega (arith, w .end, f .short) }
+
+pub head : (b b₁ b₂ b₃ : List ℕ) (at c d e s r : ℕ) → Wrote b b₁ at (text "row") c → WroteShort 11 b₁ b₂ c (field s) d
+    → WroteShort 2 b₂ b₃ d (letter r) e → WroteShort 16 b b₃ at (text "row" ++ field s ++ letter r) e
+head b b₁ b₂ b₃ at c d e s r w n l =
+    record { wrote = then (then w (n .wrote)) (l .wrote); short = omega (arith, w .end, n .short, l .short) }
+
+-- ---- lines
+
+pub too-long : (b b' : List ℕ) (e : ℕ) → Wrote b b' 0 (text "too long\n") e → Filled b b' tooLongLine e
+unfolding tooLongLine
+too-long b b' e w = filled w
+
+pub cut : (b b₁ b₂ : List ℕ) (d e k : ℕ) → WroteShort 10 b b₁ 0 (decimal k) d → Wrote b₁ b₂ d (text " cut\n") e → Filled b b₂ (cutLine k) e
+unfolding cutLine
+cut b b₁ b₂ d e k n w = filled (then (n .wrote) w)
+
+module _ (b b₁ b₂ b₃ : List ℕ) (c d e : ℕ) where
+  pub replied : (k r : ℕ) → WroteShort 10 b b₁ 0 (decimal k) c → WroteShort 19 b₁ b₂ c (reply r) d → Wrote b₂ b₃ d (text "\n") e
+      → Filled b b₃ (repliedLine k r) e
+  unfolding repliedLine
+  replied k r n p w = filled (then (then (n .wrote) (p .wrote)) w)
+
+  pub bad-site : (r : ℕ) → Wrote b b₁ 0 (text "bad site") c → WroteShort 11 b₁ b₂ c (field r) d → Wrote b₂ b₃ d (text "\n") e
+      → Filled b b₃ (badSiteLine r) e
+  unfolding badSiteLine
+  bad-site r v n w = filled (then (then v (n .wrote)) w)
+
+  pub row : (s : ℕ) (a : Row) → WroteShort 16 b b₁ 0 (text "row" ++ field s ++ letter (a .role)) c → WroteShort 66 b₁ b₂ c (fields (figures a)) d
+      → Wrote b₂ b₃ d (text "\n") e → Filled b b₃ (shownRow s a) e
+  unfolding shownRow
+  row s a n f w = filled (then (then (n .wrote) (f .wrote)) w)
+
+  pub marks-shown : (ms : List ℕ) (n : ℕ) → Through ms n → Wrote b b₁ 0 (text "marks") c → WroteShort 704 b₁ b₂ c (fields (take n ms)) d
+      → Wrote b₂ b₃ d (text "\n") e → Filled b b₃ (marksLine ms) e
+  unfolding marksLine
+  marks-shown ms n h v f w = rw (h .shown) (filled (then (then v (f .wrote)) w))

@@ -1,0 +1,72 @@
+-- Laws of writing at a place of a buffer: nothing, a byte, one thing behind another. Assumes nothing.
+use Prim.Native.Nat.{ℕ, _+_, _≤_, _<_}
+use native.Mathlib.Nat.{zero-add}
+use native.Mathlib.Numerals.{add-one}
+use native.Mathlib.Omega.{arith}
+use mathlib.Core.Path.{_≡_, ap, sym, _∙_}
+use mathlib.Core.List.{List, [], _∷_, _++_, append-assoc}
+use lib.ListN.{length, getD, take, drop, set, length-append, length-drop, take-append-drop}
+use lib.Seq.{length-take-le, take-all, take-at, take-suc, drop-drop, drop-append-add, set-split}
+use Rattle.report.specs.Buffer.{Wrote, Filled}
+
+-- ---- at one place
+
+pub wrote-none : (b : List ℕ) (at : ℕ) → at ≤ length b → Wrote b b at [] at
+wrote-none b at h = record { end = omega arith; room = h; bytes = sym (take-append-drop at b) }
+
+pub wrote-byte : (b : List ℕ) (at x : ℕ) → at < length b → Wrote b (set b at x) at (x ∷ []) (at + 1)
+wrote-byte b at x h = record { end = omega arith; room = omega arith; bytes = rw (add-one, set-split b at x) }
+
+-- ---- one behind another
+
+module _ {b b₁ : List ℕ} {at e : ℕ} {l : List ℕ} (w : Wrote b b₁ at l e) where
+  -- what stands in b₁ up to e
+  abbrev front : List ℕ
+  front = take at b ++ l
+
+  length-front : length front ≡ e
+  length-front = omega (arith, length-append (take at b) l, length-take-le at b (omega (arith, w .end, w .room)), w .end)
+
+  parts : b₁ ≡ front ++ drop e b
+  parts = w .bytes ∙ sym (append-assoc (take at b) l (drop e b))
+
+  pub sized : length b₁ ≡ length b
+  sized = ap length parts ∙ length-append front (drop e b) ∙ omega (arith, length-front, length-drop e b, w .room)
+
+  before : take e b₁ ≡ front
+  before = ap (take e) parts ∙ take-at front (drop e b) e length-front
+
+  behind : (n : ℕ) → drop (e + n) b₁ ≡ drop (e + n) b
+  behind n =
+      ap (drop (e + n)) parts
+      ∙ ap (λ (k : ℕ). drop (k + n) (front ++ drop e b)) (sym length-front)
+      ∙ drop-append-add front (drop e b) n
+      ∙ drop-drop n e b
+
+  -- m behind l is l ++ m at the first place
+  pub then : {b₂ m : List ℕ} {f : ℕ} → Wrote b₁ b₂ e m f → Wrote b b₂ at (l ++ m) f
+  then {b₂} {m} {f} v =
+      record {
+        end = omega (arith, v .end, w .end, length-append l m);
+        room = omega (arith, v .room, sized);
+        bytes = v .bytes ∙ rw (before, v .end, behind (length m)) (simp append-assoc);
+      }
+
+-- ---- a word, byte by byte
+
+module _ (b b₁ w : List ℕ) (at i e : ℕ) where
+  pub wrote-more : (b₂ : List ℕ) (f : ℕ) → i < length w → Wrote b b₁ at (take i w) e → Wrote b₁ b₂ e (getD w i 0 ∷ []) f
+      → Wrote b b₂ at (take (i + 1) w) f
+  wrote-more b₂ f h u v = rw (add-one, take-suc w i 0) (then u v)
+
+  pub wrote-all : length w ≤ i → Wrote b b₁ at (take i w) e → Wrote b b₁ at w e
+  wrote-all h u = rw (take-all i w h) at u
+
+-- ---- a line
+
+-- what is written at the start of the buffer fills it so far
+pub filled : {b b' l : List ℕ} {r : ℕ} → Wrote b b' 0 l r → Filled b b' l r
+filled {b} {b'} {l} {r} w =
+    let all : r ≡ length l = w .end ∙ zero-add (length l) in
+    let fits : r ≤ length b' = omega (arith, w .room, sized w) in
+    record { counted = all; bytes = w .bytes ∙ rw all; within = fits; lent = sym (length-take-le r b' fits) }

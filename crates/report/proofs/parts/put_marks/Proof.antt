@@ -1,0 +1,57 @@
+-- `report::parts::put_marks` meets its contract. Assumes nothing.
+use Prim.Native.Nat.{_*_, _-_, _≤_}
+use mathlib.Core.Path.{_≡_}
+use borrow.Author.Needs.{needs}
+use lib.ListN.{length, take}
+use Rattle.table.specs.Layout.{tableIn}
+use Rattle.report.specs.Lines.{fields}
+use Rattle.report.specs.Buffer.{WroteShort}
+use Rattle.report.proofs.FieldLaws.{no-fields}
+use Rattle.report.proofs.MarkLaws.{marks-more, marks-all}
+use Rattle.report.proofs.parts.put_marks.Statement.{statement}
+use Rattle.report.proofs.parts.put_marks.Tie as tie
+
+abbrev Inv-loop : tie.InvT-loop
+Inv-loop buffer₀ at t n end₀ k₀ buffer end k = (k ≤ n) × (length buffer ≡ length buffer₀) × WroteShort (11 * k) buffer₀ buffer at (fields (take k (tableIn t .marks))) end
+
+abbrev μ-loop : tie.MeasureT-loop
+μ-loop buffer₀ at t n end₀ k₀ buffer end k = n - k
+
+loop-holds : tie.Need-loop-holds Inv-loop μ-loop
+loop-holds c = (search needs, search needs, no-fields _ _ (search needs))
+
+add-k : tie.Need-add-k Inv-loop μ-loop
+add-k c = search needs
+
+mark-of-requires : tie.Need-mark-of-requires Inv-loop μ-loop
+mark-of-requires c κs = search needs
+
+put-field-requires : tie.Need-put-field-requires Inv-loop μ-loop
+put-field-requires c κs = search needs
+
+loop-less : tie.Need-loop-less Inv-loop μ-loop
+loop-less c = search needs
+
+loop-again : tie.Need-loop-again Inv-loop μ-loop
+loop-again c = (search needs, search needs, search (needs, marks-more))
+
+same-length : tie.Need-same-length Inv-loop μ-loop
+same-length c = search needs
+
+returns : tie.Need-returns Inv-loop μ-loop
+returns c = search (needs, marks-all)
+
+pub put-marks-spec : {M : Type 1} → statement M
+put-marks-spec =
+    tie.close
+    (tie.spec
+    Inv-loop
+    μ-loop
+    loop-holds
+    add-k
+    mark-of-requires
+    put-field-requires
+    loop-less
+    loop-again
+    same-length
+    returns)

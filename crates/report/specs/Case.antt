@@ -1,0 +1,63 @@
+-- The case that document 01 gives whole: what its run prints, and the lines that it must print. Assumes nothing.
+use Prim.Native.Nat.{ℕ, suc}
+use Prim.Native.String.{String}
+use mathlib.Core.List.{List, [], _∷_, _++_, map}
+use Rattle.algorithm.specs.Table.{Server, fresh}
+use Rattle.algorithm.specs.Run.{Ran, run}
+use Rattle.algorithm.specs.Cases.{bytes}
+use Rattle.report.specs.Lines.{text, repliedLine, rowLine, marksLine}
+
+-- the lines of actions, the first of which has the number k
+unfoldable pub repliedLines : ℕ → List ℕ → List (List ℕ)
+repliedLines k [] = []
+repliedLines k (r ∷ rest) = repliedLine k r ∷ repliedLines (suc k) rest
+
+-- the lines of servers, the first of which has the number s
+unfoldable pub rowLines : ℕ → List Server → List (List ℕ)
+rowLines s [] = []
+rowLines s (a ∷ rest) = rowLine s a ∷ rowLines (suc s) rest
+
+-- the lines of a run, none of whose actions is cut
+abbrev pub printed : Ran → List (List ℕ)
+printed r = repliedLines 1 (r .replies) ++ rowLines 1 (r .table .servers) ++ (marksLine (r .table .marks) ∷ [])
+
+-- elect 1 by 3; write 1; fetch 2 from 1; reconfigure 1 to 15; send 1 to 2; reconfigure 1 to 15; commit 1 by 3; reconfigure 1 to 15; elect
+-- 3 by 6
+abbrev pub plan : List ℕ
+plan =
+    bytes 1 1 0 3
+    ++ bytes 5 1 0 0
+    ++ bytes 6 2 1 0
+    ++ bytes 2 1 0 15
+    ++ bytes 3 1 2 0
+    ++ bytes 2 1 0 15
+    ++ bytes 8 1 0 3
+    ++ bytes 2 1 0 15
+    ++ bytes 1 3 0 6
+
+-- what the case prints, by the definitions
+unfoldable pub given : List (List ℕ)
+given = printed (run (fresh 4 7) plan)
+
+-- what it must print
+abbrev pub lines : List String
+lines =
+    "1 taken\n"
+    ∷ "2 taken\n"
+    ∷ "3 taken\n"
+    ∷ "4 refused 14\n"
+    ∷ "5 taken\n"
+    ∷ "6 refused 16\n"
+    ∷ "7 taken\n"
+    ∷ "8 taken\n"
+    ∷ "9 refused 8\n"
+    ∷ "row 1 P 1 15 2 1 1 1\n"
+    ∷ "row 2 S 1 7 1 1 1 1\n"
+    ∷ "row 3 S 0 7 1 0 0 0\n"
+    ∷ "row 4 S 0 7 1 0 0 0\n"
+    ∷ "marks 1\n"
+    ∷ []
+
+-- the same as bytes
+unfoldable pub expected : List (List ℕ)
+expected = map text lines

@@ -1,0 +1,92 @@
+// The parts that single lines have: a reply, the head and the figures of a row, the marks.
+ghost use mathlib.Core.List.{[], _∷_, _++_};
+ghost use Prim.Native.Nat.{_+_, _≤_};
+ghost use lib.ListN.{length, take};
+ghost use Rattle.table.specs.Layout.{tableIn};
+ghost use Rattle.table.specs.Slice.{Held};
+ghost use Rattle.report.specs.Lines.{text, field, fields, reply, letter, figures};
+ghost use Rattle.report.specs.Buffer.{WroteShort, Through};
+use crate::put::put_field;
+use crate::put::put_word;
+use algorithm::Position;
+use table::rows::Row;
+use table::rows::mark_of;
+
+pub(crate) fn put_reply(buffer: &mut [u8], at: usize, r: u8) -> usize
+    requires { ⌜ at + 19 ≤ length (now buffer) ⌝ }
+    ensures { λ e. ⌜ WroteShort 19 (now (buffer .entry)) (now (buffer .exit)) at (reply r) e ⌝ }
+{
+    if r == 0 {
+        return put_word(buffer, at, b" taken");
+    }
+    let end = put_word(buffer, at, b" refused");
+    put_field(buffer, end, r as u32)
+}
+
+fn put_role(buffer: &mut [u8], at: usize, role: u32) -> usize
+    requires { ⌜ at + 2 ≤ length (now buffer) ⌝ }
+    ensures { λ e. ⌜ WroteShort 2 (now (buffer .entry)) (now (buffer .exit)) at (letter role) e ⌝ }
+{
+    if role == 1 {
+        return put_word(buffer, at, b" P");
+    }
+    put_word(buffer, at, b" S")
+}
+
+pub(crate) fn put_head(buffer: &mut [u8], at: usize, s: u8, role: u32) -> usize
+    requires { ⌜ at + 16 ≤ length (now buffer) ⌝ }
+    ensures { λ e. ⌜ WroteShort 16 (now (buffer .entry)) (now (buffer .exit)) at (text "row" ++ field s ++ letter role) e ⌝ }
+{
+    let end = put_word(buffer, at, b"row");
+    let end = put_field(buffer, end, s as u32);
+    put_role(buffer, end, role)
+}
+
+// Three numbers: six calls in a row are more than the prover's search goes through.
+fn put_three(buffer: &mut [u8], at: usize, x: u32, y: u32, z: u32) -> usize
+    requires { ⌜ at + 33 ≤ length (now buffer) ⌝ }
+    ensures { λ e. ⌜ WroteShort 33 (now (buffer .entry)) (now (buffer .exit)) at (fields (x ∷ y ∷ z ∷ [])) e ⌝ }
+{
+    let end = put_field(buffer, at, x);
+    let end = put_field(buffer, end, y);
+    put_field(buffer, end, z)
+}
+
+pub(crate) fn put_figures(buffer: &mut [u8], at: usize, a: Row) -> usize
+    requires { ⌜ at + 66 ≤ length (now buffer) ⌝ }
+    ensures { λ e. ⌜ WroteShort 66 (now (buffer .entry)) (now (buffer .exit)) at (fields (figures a)) e ⌝ }
+{
+    let end = put_three(buffer, at, a.term.0, a.set as u32, a.version.0);
+    put_three(buffer, end, a.config.0, a.length.0 as u32, a.last.0)
+}
+
+// How many marks there are through the last that is not 0: marks of 0 may stand between others, so the search begins at the end.
+pub(crate) fn marked(t: &[u8]) -> u8
+    requires { ⌜ Held (now t) ⌝ }
+    ensures { λ n. ⌜ Through (tableIn (now (t .entry)) .marks) n ⌝ }
+{
+    let mut n: u8 = 64;
+    while 0 < n {
+        if mark_of(t, Position(n)).0 != 0 {
+            return n;
+        }
+        n -= 1;
+    }
+    0
+}
+
+// The first n marks.
+pub(crate) fn put_marks(buffer: &mut [u8], at: usize, t: &[u8], n: u8) -> usize
+    requires { ⌜ Held (now t) ⌝ }
+    requires { ⌜ n ≤ 64 ⌝ }
+    requires { ⌜ at + 704 ≤ length (now buffer) ⌝ }
+    ensures { λ e. ⌜ WroteShort 704 (now (buffer .entry)) (now (buffer .exit)) at (fields (take n (tableIn (now (t .entry)) .marks))) e ⌝ }
+{
+    let mut end = at;
+    let mut k: u8 = 0;
+    while k < n {
+        k += 1;
+        end = put_field(buffer, end, mark_of(t, Position(k)).0);
+    }
+    end
+}

@@ -1,0 +1,134 @@
+/* Kyntulei: judges and plays steps of a replicated store's configuration protocol on a table of 1 to 16 servers.
+ *
+ * Four kinds of byte slice pass through these functions. Each is a pointer with a length, may stand at any address
+ * (no alignment is asked), and must not overlap another slice of the same call. Where a length is 0 the pointer is
+ * not followed and may be NULL. Nothing is kept between calls: the table slice is the whole state.
+ *
+ * THE TABLE SLICE is 17 rows of 70 unsigned words of 4 bytes, low byte first: 4,760 bytes.
+ *   Row 0:                  word 0       n, the number of servers, 1 to 16
+ *                           words 1..5   0
+ *                           words 6..69  the marks of positions 1..64: the term committed there, or 0
+ *   Row s, for server s:    word 0       role: 0 secondary, 1 primary
+ *                           word 1       term, up to 1,000,000,000; a primary's is at least 1
+ *                           word 2       set of its configuration: not empty, server s is bit s-1, no bit above n
+ *                           word 3       version of its configuration, 1 to 1,000,000,000
+ *                           word 4       term of its configuration, up to 1,000,000,000
+ *                           word 5       number of entries in its log, up to 64
+ *                           words 6..69  the log's entries, each a term of 1 to 1,000,000,000; 0 past its end
+ *   Rows past n are 0. Marks go up to 1,000,000,000. A slice of any other length or contents is a broken table.
+ *
+ * THE TABLE IMAGE is a table in fewer bytes, as a file carries it; kyntulei_read makes the slice of it. Numbers are low
+ * byte first here, too.
+ *   Bytes 0..3              the letters SITE
+ *   Byte 4                  n, 1 to 16
+ *   Bytes 5..7              0
+ *   Bytes 8..11+4n          the contents: n+1 entries, the first for the marks and then one for each server in order.
+ *                           An entry is 2 bytes of offset, where the body starts in the image, and 2 bytes of length
+ *   From byte 12+4n         the bodies, in the order of their entries and without gaps
+ *   The marks' body:        4 bytes for each position from 1 on; 0 to 64 positions, and the last one's mark is not 0
+ *   A server's body:        byte 0         role
+ *                           byte 1         0
+ *                           bytes 2..3     set of its configuration
+ *                           bytes 4..7     term
+ *                           bytes 8..11    version of its configuration
+ *                           bytes 12..15   term of its configuration
+ *                           from byte 16   the log's entries, 0 to 64 of 4 bytes each
+ *   The figures are those of the table slice, within the same bounds. The longest image has 4,684 bytes.
+ *
+ * AN ACTION is 8 bytes: kind, i, j, 0, low byte of the set, high byte of the set, 0, 0. What a kind does not name
+ * below has to be 0.
+ *   1 elect i by set           2 reconfigure i to set      3 send i's configuration to j   4 spread i's term to j
+ *   5 write at i               6 fetch to i from j         7 roll back i against j         8 commit at i by set
+ *
+ * REPLIES. 0 says taken. Any other number is a refusal, the table then keeps every byte it had; of several grounds
+ * the one with the smallest number is named.
+ *    1  the table is broken (looked at before the action, so also for an action of a wrong length)
+ *    2  the action's length is not 8, or its kind is not one of the eight
+ *    3  a byte that this kind does not name is not 0
+ *    4  server i, or j where the kind names it, is not one of 1..n
+ *    5  the set named is empty or reaches past server n
+ *    6  role: reconfigure, send, write and commit want a primary i; fetch and roll back a secondary i; send a
+ *       secondary j
+ *    7  elect, commit: the set is not within i's set or not more than half of it; elect: i itself is missing
+ *    8  elect: somebody in the set is at a later term than i
+ *    9  elect: somebody in the set has a newer configuration than i (the configuration's term counts before its
+ *       version)
+ *   10  elect: somebody's log in the set is ahead of i's (last entry first, then length)
+ *   11  the counter that has to grow is at 1,000,000,000: i's term (elect), i's version (reconfigure)
+ *   12  reconfigure: the new set leaves i out
+ *   13  reconfigure: old and new set do not differ in exactly one server
+ *   14  reconfigure: no majority of i's set shares i's version and configuration term
+ *   15  reconfigure: no majority of i's set is at i's term
+ *   16  reconfigure: no mark carries i's term, or no majority of i's set is at i's term and holds all those marked
+ *   17  send: i's configuration is not newer than j's
+ *   18  spread: i's term is not larger than j's
+ *   19  write: i's log has its 64 entries
+ *   20  fetch: j's log is not longer, or has another term where i's log ends
+ *   21  roll back: i's last entry is not below j's, or i's log is how j's begins
+ *   22  commit: i's log is empty or ends in another term than i's own
+ *   23  commit: somebody in the set is at another term or lacks i's last entry
+ *   24  commit: a different term is marked at that position already
+ * kyntulei_fresh has 32 beside these, and kyntulei_read 30 to 34. */
+#ifndef KYNTULEI_H
+#define KYNTULEI_H
+
+#include <stddef.h>
+#include <stdint.h>
+
+#ifdef __cplusplus
+extern "C" {
+#endif
+
+/* The one length a table slice may have: 4760. */
+size_t kyntulei_table_bytes(void);
+
+/* Fills `table`, whatever it held, with n servers that are all secondary at term 0 with an empty log and with one
+ * configuration (`set`, version 1, term 0), and with no marks.
+ *
+ * Answers 0 when filled. Otherwise nothing is written, and the answer is, asked in this order:
+ *    1  table_len is not kyntulei_table_bytes()
+ *   32  n is not 1 to 16
+ *    5  set is empty or reaches past server n (all 32 bits count) */
+uint32_t kyntulei_fresh(uint8_t *table, size_t table_len, uint32_t n, uint32_t set);
+
+/* Judges one action and, if it is taken, alters `table` accordingly. Answers 0 or a refusal of 1 to 24.
+ *
+ * Every length is allowed: table_len other than kyntulei_table_bytes() gives 1, and else action_len other than 8
+ * gives 2. `action` is only read. The table is checked whole at each call; for many actions kyntulei_run checks it
+ * but once. */
+uint32_t kyntulei_step(uint8_t *table, size_t table_len, const uint8_t *action, size_t action_len);
+
+/* Plays `actions` in order, 8 bytes at a time, and writes the reply to each, one byte, into `replies`. A refused
+ * action leaves the table as it was and the run continues with the next. Answers how many replies were written.
+ *
+ * If actions_len is not a multiple of 8, the 1 to 7 bytes left over count as one more piece, replied to with 2. If
+ * the table is broken, table_len other than kyntulei_table_bytes() included, every piece is replied to with 1 and
+ * the table is not altered.
+ *
+ * The room in `replies` decides where a run stops: after replies_len pieces the rest is neither played nor replied
+ * to. One reply for each piece needs (actions_len + 7) / 8 bytes; replies_len 0 plays nothing, and in a longer
+ * `replies` the bytes past the answered number keep what they held. */
+uint64_t kyntulei_run(uint8_t *table, size_t table_len, const uint8_t *actions, size_t actions_len,
+                      uint8_t *replies, size_t replies_len);
+
+/* Fills `table`, whatever it held, from the table image that `image` begins with, and sets *end to its length. Bytes
+ * from there on are not looked at: `image` may go on with a list of actions for kyntulei_run, or with anything.
+ *
+ * Answers 0 when filled. Otherwise neither `table` nor *end is written, and the answer is, asked in this order:
+ *    1  table_len is not kyntulei_table_bytes()
+ *   30  image_len is less than 8
+ *   31  the image does not begin with SITE, or one of its bytes 5..7 is not 0
+ *   32  n is not 1 to 16
+ *   33  image_len ends within the contents or within a body; or an offset is not where the body before it ends (12+4n
+ *       for the marks); or the marks' length is not 4 times 0 to 64, or a server's not 16 more than such a number
+ *   34  a figure is out of its bounds, byte 1 of a server's body is not 0, or the last mark is 0
+ * All contents and all bodies' ends come before any figure: 33 wherever it applies, and else 34.
+ *
+ * `end` must point to a number of its own, even where 1 to 34 is expected. */
+uint32_t kyntulei_read(const uint8_t *image, size_t image_len, uint8_t *table, size_t table_len, uint64_t *end);
+
+#ifdef __cplusplus
+}
+#endif
+
+#endif

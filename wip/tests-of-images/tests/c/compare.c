@@ -1,0 +1,147 @@
+/* compare [SEED [ACTIONS]]: plays drawn trials on two engines until ACTIONS steps have been compared. */
+#include <stdio.h>
+#include <stdlib.h>
+#include <string.h>
+
+#include "generate.h"
+#include "plain_rules.h"
+#include "trial.h"
+
+struct tally {
+    uint64_t trials;
+    uint64_t actions;
+    uint64_t given[NUMBERS];
+    uint64_t taken_of_kind[COMMIT + 1];
+};
+
+static void fill_plan(struct source *source, struct trial *trial, size_t count)
+{
+    struct temper temper = draw_temper(source);
+    uint8_t table[TABLE_BYTES];
+    memcpy(table, trial->start, TABLE_BYTES);
+    trial->actions_len = ACTION_BYTES * count;
+    if (plain_is_whole(table, TABLE_BYTES)) {
+        draw_guided_plan(source, &temper, table, count, trial->actions);
+        return;
+    }
+    for (size_t piece = 0; piece < count; piece++) {
+        draw_blind_action(source, between(source, 1, MOST_SERVERS), trial->actions + ACTION_BYTES * piece);
+    }
+}
+
+static void draw_long_plan(struct source *source, struct trial *trial)
+{
+    draw_fresh_table(source, trial->start);
+    if (chance(source, 20)) {
+        lift_counters(source, trial->start);
+    }
+    fill_plan(source, trial, between(source, 50, 1000));
+}
+
+static void draw_odd_trial(struct source *source, struct trial *trial)
+{
+    draw_odd_table(source, trial->start);
+    if (chance(source, 15)) {
+        spoil_table(source, trial->start);
+    }
+    fill_plan(source, trial, between(source, 1, 30));
+}
+
+/* The first action is drawn before the table is disturbed, so that mostly one condition of it is what breaks. */
+static void draw_near_miss(struct source *source, struct trial *trial)
+{
+    uint8_t walked[ACTION_BYTES * MOST_PIECES];
+    struct temper temper = draw_temper(source);
+    uint8_t first[ACTION_BYTES];
+    draw_fresh_table(source, trial->start);
+    draw_guided_plan(source, &temper, trial->start, below(source, 150), walked);
+    draw_guided_action(source, &temper, trial->start, first);
+    for (uint32_t times = between(source, 1, 3); times > 0; times--) {
+        disturb_table(source, trial->start);
+    }
+    fill_plan(source, trial, between(source, 1, 8));
+    memcpy(trial->actions, first, ACTION_BYTES);
+}
+
+static void draw_trial(struct source *source, struct trial *trial)
+{
+    uint32_t sort = below(source, 100);
+    if (sort < 8) {
+        draw_long_plan(source, trial);
+    } else if (sort < 54) {
+        draw_odd_trial(source, trial);
+    } else {
+        draw_near_miss(source, trial);
+    }
+    size_t pieces = trial_pieces(trial);
+    trial->room = pieces;
+    if (chance(source, 10)) {
+        trial->actions_len -= below(source, ACTION_BYTES);
+    }
+    if (chance(source, 20)) {
+        trial->room = below(source, (uint32_t)pieces + 8);
+    }
+}
+
+static void add_to_tally(struct tally *tally, const struct trial *trial, const struct outcome *outcome)
+{
+    tally->trials++;
+    tally->actions += outcome->pieces;
+    for (size_t piece = 0; piece < outcome->pieces; piece++) {
+        tally->given[outcome->replies[piece]]++;
+        if (outcome->replies[piece] == TAKEN) {
+            tally->taken_of_kind[trial->actions[ACTION_BYTES * piece]]++;
+        }
+    }
+}
+
+static bool report_tally(const struct tally *tally)
+{
+    bool all_given = true;
+    printf("%llu actions in %llu trials; how often each number was given:\n", (unsigned long long)tally->actions,
+           (unsigned long long)tally->trials);
+    for (uint32_t number = 0; number < NUMBERS; number++) {
+        printf("  %2u: %llu\n", number, (unsigned long long)tally->given[number]);
+        all_given = all_given && tally->given[number] > 0;
+    }
+    printf("taken by kind 1 to 8:");
+    for (uint32_t kind = ELECT; kind <= COMMIT; kind++) {
+        printf(" %llu", (unsigned long long)tally->taken_of_kind[kind]);
+        all_given = all_given && tally->taken_of_kind[kind] > 0;
+    }
+    putchar('\n');
+    if (!all_given) {
+        puts("FAILED: a number was never given, or a kind never taken");
+    }
+    return all_given;
+}
+
+static void report_difference(struct trial *trial, const struct engine *one, const struct engine *other)
+{
+    struct outcome outcome;
+    trial_shrink(trial, one, other);
+    printf("FAILED: they differ in %s, at the smallest in:\n", trial_difference(trial, one, other, &outcome));
+    trial_print(trial, one, other);
+}
+
+int main(int count, char **arguments)
+{
+    const struct engine *one = &plain_engine;
+    const struct engine *other = tested_engine;
+    uint64_t seed = count > 1 ? strtoull(arguments[1], NULL, 10) : 1;
+    uint64_t wanted = count > 2 ? strtoull(arguments[2], NULL, 10) : 1000000;
+    struct source source = {seed};
+    struct tally tally = {0};
+    printf("comparing %s with %s, seed %llu\n", one->name, other->name, (unsigned long long)seed);
+    while (tally.actions < wanted) {
+        struct trial trial;
+        struct outcome outcome;
+        draw_trial(&source, &trial);
+        if (trial_difference(&trial, one, other, &outcome) != NULL) {
+            report_difference(&trial, one, other);
+            return EXIT_FAILURE;
+        }
+        add_to_tally(&tally, &trial, &outcome);
+    }
+    return report_tally(&tally) ? EXIT_SUCCESS : EXIT_FAILURE;
+}

@@ -1,0 +1,74 @@
+/* plain_rehearse < INPUT: prints what the program rehearse has to print, by the plain reader and the plain engine. */
+#include <stdio.h>
+#include <stdlib.h>
+
+#include "image.h"
+#include "plain_image.h"
+#include "plain_rules.h"
+
+static void print_replies(uint8_t *table, const uint8_t *actions, size_t actions_len)
+{
+    size_t count = actions_len / ACTION_BYTES;
+    for (size_t piece = 0; piece < count; piece++) {
+        uint32_t reply = plain_play(table, actions + ACTION_BYTES * piece);
+        if (reply == TAKEN) {
+            printf("%zu taken\n", piece + 1);
+        } else {
+            printf("%zu refused %u\n", piece + 1, reply);
+        }
+    }
+    if (actions_len % ACTION_BYTES != 0) {
+        printf("%zu cut\n", count + 1);
+    }
+}
+
+static void print_row(uint32_t server, const uint8_t *row)
+{
+    printf("row %u %c %u %u %u %u %u %u\n", server, word(row, ROLE) == PRIMARY ? 'P' : 'S', word(row, TERM),
+           word(row, SET), word(row, VERSION), word(row, CONFIG_TERM), word(row, LOG_LENGTH), last_entry(row));
+}
+
+static void print_marks(const uint8_t *table)
+{
+    size_t end = MARKS + MOST_ENTRIES;
+    while (end > MARKS && word(table, end - 1) == 0) {
+        end--;
+    }
+    fputs("marks", stdout);
+    for (size_t column = MARKS; column < end; column++) {
+        printf(" %u", word(table, column));
+    }
+    putchar('\n');
+}
+
+static void rehearse(const uint8_t *input, size_t length)
+{
+    uint8_t table[TABLE_BYTES];
+    uint64_t end;
+    if (length > MOST_INPUT_BYTES) {
+        puts("too long");
+        return;
+    }
+    uint32_t reply = plain_read(input, length, table, TABLE_BYTES, &end);
+    if (reply != TAKEN) {
+        printf("bad site %u\n", reply);
+        return;
+    }
+    print_replies(table, input + end, length - end);
+    for (uint32_t server = 1; server <= word(table, SERVERS); server++) {
+        print_row(server, table + row_start(server));
+    }
+    print_marks(table);
+}
+
+int main(void)
+{
+    /* One byte more than is allowed tells a longer input from the longest. */
+    static uint8_t input[MOST_INPUT_BYTES + 1];
+    size_t length = fread(input, 1, sizeof input, stdin);
+    if (ferror(stdin)) {
+        return EXIT_FAILURE;
+    }
+    rehearse(input, length);
+    return fflush(stdout) == 0 ? EXIT_SUCCESS : EXIT_FAILURE;
+}
