@@ -1,6 +1,6 @@
 /* Kyntulei: judges and plays steps of a replicated store's configuration protocol on a table of 1 to 16 servers.
  *
- * Three kinds of byte slice pass through these functions. Each is a pointer with a length, may stand at any address
+ * Four kinds of byte slice pass through these functions. Each is a pointer with a length, may stand at any address
  * (no alignment is asked), and must not overlap another slice of the same call. Where a length is 0 the pointer is
  * not followed and may be NULL. Nothing is kept between calls: the table slice is the whole state.
  *
@@ -16,6 +16,24 @@
  *                           word 5       number of entries in its log, up to 64
  *                           words 6..69  the log's entries, each a term of 1 to 1,000,000,000; 0 past its end
  *   Rows past n are 0. Marks go up to 1,000,000,000. A slice of any other length or contents is a broken table.
+ *
+ * THE TABLE IMAGE is a table in fewer bytes, as a file carries it; kyntulei_read makes the slice of it. Numbers are low
+ * byte first here, too.
+ *   Bytes 0..3              the letters SITE
+ *   Byte 4                  n, 1 to 16
+ *   Bytes 5..7              0
+ *   Bytes 8..11+4n          the contents: n+1 entries, the first for the marks and then one for each server in order.
+ *                           An entry is 2 bytes of offset, where the body starts in the image, and 2 bytes of length
+ *   From byte 12+4n         the bodies, in the order of their entries and without gaps
+ *   The marks' body:        4 bytes for each position from 1 on; 0 to 64 positions, and the last one's mark is not 0
+ *   A server's body:        byte 0         role
+ *                           byte 1         0
+ *                           bytes 2..3     set of its configuration
+ *                           bytes 4..7     term
+ *                           bytes 8..11    version of its configuration
+ *                           bytes 12..15   term of its configuration
+ *                           from byte 16   the log's entries, 0 to 64 of 4 bytes each
+ *   The figures are those of the table slice, within the same bounds. The longest image has 4,684 bytes.
  *
  * AN ACTION is 8 bytes: kind, i, j, 0, low byte of the set, high byte of the set, 0, 0. What a kind does not name
  * below has to be 0.
@@ -50,7 +68,7 @@
  *   22  commit: i's log is empty or ends in another term than i's own
  *   23  commit: somebody in the set is at another term or lacks i's last entry
  *   24  commit: a different term is marked at that position already
- * kyntulei_fresh has 32 beside these. */
+ * kyntulei_fresh has 32 beside these, and kyntulei_read 30 to 34. */
 #ifndef KYNTULEI_H
 #define KYNTULEI_H
 
@@ -92,6 +110,22 @@ uint32_t kyntulei_step(uint8_t *table, size_t table_len, const uint8_t *action, 
  * `replies` the bytes past the answered number keep what they held. */
 uint64_t kyntulei_run(uint8_t *table, size_t table_len, const uint8_t *actions, size_t actions_len,
                       uint8_t *replies, size_t replies_len);
+
+/* Fills `table`, whatever it held, from the table image that `image` begins with, and sets *end to its length. Bytes
+ * from there on are not looked at: `image` may go on with a list of actions for kyntulei_run, or with anything.
+ *
+ * Answers 0 when filled. Otherwise neither `table` nor *end is written, and the answer is, asked in this order:
+ *    1  table_len is not kyntulei_table_bytes()
+ *   30  image_len is less than 8
+ *   31  the image does not begin with SITE, or one of its bytes 5..7 is not 0
+ *   32  n is not 1 to 16
+ *   33  image_len ends within the contents or within a body; or an offset is not where the body before it ends (12+4n
+ *       for the marks); or the marks' length is not 4 times 0 to 64, or a server's not 16 more than such a number
+ *   34  a figure is out of its bounds, byte 1 of a server's body is not 0, or the last mark is 0
+ * All contents and all bodies' ends come before any figure: 33 wherever it applies, and else 34.
+ *
+ * `end` must point to a number of its own, even where 1 to 34 is expected. */
+uint32_t kyntulei_read(const uint8_t *image, size_t image_len, uint8_t *table, size_t table_len, uint64_t *end);
 
 #ifdef __cplusplus
 }

@@ -8,5 +8,8 @@ int main(void)
     check_errors(tested_engine);
     check_broken(tested_engine);
     check_lengths(tested_engine);
+    check_images(tested_engine);
+    check_bodies(tested_engine);
+    check_damages(tested_engine);
     return close_checks(tested_engine->name);
 }

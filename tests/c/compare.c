@@ -4,7 +4,6 @@
 #include <string.h>
 
 #include "generate.h"
-#include "plain.h"
 #include "plain_rules.h"
 #include "trial.h"
 
@@ -14,26 +13,6 @@ struct tally {
     uint64_t given[NUMBERS];
     uint64_t taken_of_kind[COMMIT + 1];
 };
-
-static void draw_fresh(struct source *source, uint8_t *table)
-{
-    uint32_t n = between(source, 1, MOST_SERVERS);
-    uint32_t set = chance(source, 50) ? all_servers(n) : (uint32_t)draw(source) & all_servers(n);
-    plain_fresh(table, TABLE_BYTES, n, set == 0 ? 1 : set);
-}
-
-/* Terms and versions so near their ceilings that a plan reaches them. */
-static void lift_counters(struct source *source, uint8_t *table)
-{
-    uint32_t term = CEILING - below(source, 6);
-    uint32_t version = CEILING - below(source, 4);
-    for (uint32_t server = 1; server <= word(table, SERVERS); server++) {
-        uint8_t *row = table + row_start(server);
-        put_word(row, TERM, term);
-        put_word(row, CONFIG_TERM, term);
-        put_word(row, VERSION, version);
-    }
-}
 
 static void fill_plan(struct source *source, struct trial *trial, size_t count)
 {
@@ -52,7 +31,7 @@ static void fill_plan(struct source *source, struct trial *trial, size_t count)
 
 static void draw_long_plan(struct source *source, struct trial *trial)
 {
-    draw_fresh(source, trial->start);
+    draw_fresh_table(source, trial->start);
     if (chance(source, 20)) {
         lift_counters(source, trial->start);
     }
@@ -74,7 +53,7 @@ static void draw_near_miss(struct source *source, struct trial *trial)
     uint8_t walked[ACTION_BYTES * MOST_PIECES];
     struct temper temper = draw_temper(source);
     uint8_t first[ACTION_BYTES];
-    draw_fresh(source, trial->start);
+    draw_fresh_table(source, trial->start);
     draw_guided_plan(source, &temper, trial->start, below(source, 150), walked);
     draw_guided_action(source, &temper, trial->start, first);
     for (uint32_t times = between(source, 1, 3); times > 0; times--) {

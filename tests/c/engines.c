@@ -3,14 +3,15 @@
 #include <string.h>
 
 #include "plain.h"
+#include "plain_image.h"
 
-const struct engine plain_engine = {"plain", plain_table_bytes, plain_fresh, plain_step, plain_run};
+const struct engine plain_engine = {"plain", plain_table_bytes, plain_fresh, plain_step, plain_run, plain_read};
 
 #ifdef WITH_KYNTULEI
 #include "kyntulei.h"
 
 static const struct engine verified_engine = {
-    "kyntulei", kyntulei_table_bytes, kyntulei_fresh, kyntulei_step, kyntulei_run,
+    "kyntulei", kyntulei_table_bytes, kyntulei_fresh, kyntulei_step, kyntulei_run, kyntulei_read,
 };
 const struct engine *const tested_engine = &verified_engine;
 #else

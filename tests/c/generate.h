@@ -38,6 +38,11 @@ void draw_guided_action(struct source *source, const struct temper *temper, cons
 void draw_guided_plan(struct source *source, const struct temper *temper, uint8_t *table, size_t count,
                       uint8_t *actions);
 
+void draw_fresh_table(struct source *source, uint8_t *table);
+
+/* Puts terms and versions so near their ceilings that a plan reaches them. */
+void lift_counters(struct source *source, uint8_t *table);
+
 /* A random table that is not broken, and mostly reached by no run. */
 void draw_odd_table(struct source *source, uint8_t *table);
 
@@ -46,5 +51,9 @@ void disturb_table(struct source *source, uint8_t *table);
 
 /* Puts any word anywhere; mostly breaks the table. */
 void spoil_table(struct source *source, uint8_t *table);
+
+/* Alters bytes of a good image of image_len bytes, or cuts it and all that lies behind it. Of the `length` bytes there
+ * were, so many are left as are answered. Now and then it still is a good image. */
+size_t damage_image(struct source *source, uint8_t *image, size_t image_len, size_t length);
 
 #endif

@@ -2,6 +2,8 @@
 
 #include <string.h>
 
+#include "plain.h"
+
 /* Figures are drawn close above a floor, so that equal and neighbouring ones meet often. */
 struct floors {
     uint32_t n;
@@ -86,6 +88,25 @@ static void draw_marks(struct source *source, const struct floors *floors, uint8
             bool on_trunk = chance(source, agreeing);
             put_word(table, MARKS + index, on_trunk ? floors->trunk[index] : draw_above(source, floors->term, 3, 0));
         }
+    }
+}
+
+void draw_fresh_table(struct source *source, uint8_t *table)
+{
+    uint32_t n = between(source, 1, MOST_SERVERS);
+    uint32_t set = chance(source, 50) ? all_servers(n) : (uint32_t)draw(source) & all_servers(n);
+    plain_fresh(table, TABLE_BYTES, n, set == 0 ? 1 : set);
+}
+
+void lift_counters(struct source *source, uint8_t *table)
+{
+    uint32_t term = CEILING - below(source, 6);
+    uint32_t version = CEILING - below(source, 4);
+    for (uint32_t server = 1; server <= word(table, SERVERS); server++) {
+        uint8_t *row = table + row_start(server);
+        put_word(row, TERM, term);
+        put_word(row, CONFIG_TERM, term);
+        put_word(row, VERSION, version);
     }
 }
 

@@ -32,7 +32,11 @@ enum reply {
     NO_OWN_ENTRY = 22,
     NOT_SUPPORTED = 23,
     MARKED_OTHERWISE = 24,
-    BAD_NUMBER_OF_SERVERS = 32
+    SHORT_IMAGE = 30,
+    BAD_OPENING = 31,
+    BAD_NUMBER_OF_SERVERS = 32,
+    BAD_CONTENTS = 33,
+    BAD_FIELD = 34
 };
 
 struct action {

@@ -53,5 +53,8 @@ void check_fields(const struct engine *engine);
 void check_errors(const struct engine *engine);
 void check_broken(const struct engine *engine);
 void check_lengths(const struct engine *engine);
+void check_images(const struct engine *engine);
+void check_bodies(const struct engine *engine);
+void check_damages(const struct engine *engine);
 
 #endif

@@ -10,7 +10,7 @@ use Rattle.algorithm.proofs.Sound.{sound-table}
 use Rattle.table.specs.Layout.{stored}
 use Rattle.table.proofs.BoolLaws.{is-true}
 use Rattle.image.specs.Image.{image}
-use Rattle.image.specs.Reader.{readReply, readTable, readBytes, endAfter}
+use Rattle.image.specs.Reader.{readReply, readTable, readBytes, endAfter, ReadAnswer}
 use Rattle.image.proofs.ReplyLaws.{read-into, read-upto}
 use Rattle.image.proofs.SoundRead.{read-sound}
 use Rattle.image.proofs.ReadBack.{number-back, table-back, end-back}
@@ -36,8 +36,6 @@ read-back t rest slice e h sized =
     )
 
 -- Two answers that meet the contract for one image, one slice and one end are the same answer.
-pub unique : (im slice : List ℕ) (e r r' : ℕ) (b b' : List ℕ) (z z' : ℕ)
-    → (r ≡ readReply im slice) × (b ≡ readBytes im slice) × (z ≡ endAfter im slice e)
-    → (r' ≡ readReply im slice) × (b' ≡ readBytes im slice) × (z' ≡ endAfter im slice e)
+pub unique : {im slice b b' : List ℕ} {e r r' z z' : ℕ} → ReadAnswer im slice e r b z → ReadAnswer im slice e r' b' z'
     → (r ≡ r') × (b ≡ b') × (z ≡ z')
-unique im slice e r r' b b' z z' (p, q, u) (p', q', u') = (p ∙ sym p', q ∙ sym q', u ∙ sym u')
+unique h k = (h .reply ∙ sym (k .reply), h .bytes ∙ sym (k .bytes), h .end ∙ sym (k .end))

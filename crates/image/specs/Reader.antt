@@ -1,6 +1,7 @@
 -- The reader: its refusals, and what it gives where none holds. Assumes nothing.
 use Prim.Native.Nat.{ℕ, zero, suc}
 use mathlib.Core.Bool.{cond, not}
+use mathlib.Core.Path.{_≡_}
 use mathlib.Core.List.{List, [], _∷_, _++_}
 use lib.Dec.{ltb, eqb}
 use lib.ListN.{length}
@@ -49,3 +50,9 @@ readBytes im slice = ifRead im slice (stored (readTable im)) slice
 -- the end afterwards, likewise
 abbrev pub endAfter : List ℕ → List ℕ → ℕ → ℕ
 endAfter im slice e = ifRead im slice (readEnd im) e
+
+-- what is answered to an image, a slice and an end: the number, the slice and the end afterwards
+pub record ReadAnswer (im slice : List ℕ) (e r : ℕ) (slice' : List ℕ) (e' : ℕ) : Type 0 where
+  pub reply : r ≡ readReply im slice
+  pub bytes : slice' ≡ readBytes im slice
+  pub end : e' ≡ endAfter im slice e

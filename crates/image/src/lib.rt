@@ -1,6 +1,6 @@
 // The reader of a table's image (specs/Image.antt): judged on the image alone, and only then is the slice written.
 ghost use mathlib.Core.Path.{_≡_};
-ghost use Rattle.image.specs.Reader.{readReply, readEnd, readBytes, endAfter};
+ghost use Rattle.image.specs.Reader.{readReply, readEnd, ReadAnswer};
 ghost use Rattle.image.specs.Asked.{Named};
 use crate::bodies::are_sound;
 use crate::contents::count_of;
@@ -49,9 +49,7 @@ fn end_of(image: &[u8]) -> u64
 
 // Reads an image into a table's slice, and puts into `end` where the bytes after the image begin. Refused, it touches neither.
 pub fn read(image: &[u8], table: &mut [u8], end: &mut u64) -> u32
-    ensures { λ r. ⌜ (r ≡ readReply (now (image .entry)) (now (table .entry)))
-        × (now (table .exit) ≡ readBytes (now (image .entry)) (now (table .entry)))
-        × (now (end .exit) ≡ endAfter (now (image .entry)) (now (table .entry)) (now (end .entry))) ⌝ }
+    ensures { λ r. ⌜ ReadAnswer (now (image .entry)) (now (table .entry)) (now (end .entry)) r (now (table .exit)) (now (end .exit)) ⌝ }
 {
     let number = judge(image, table);
     if number != 0 {

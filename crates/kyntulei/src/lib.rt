@@ -1,10 +1,12 @@
 // The engine for the store's release harness: numbers and byte slices in, a number and filled slices out (include/kyntulei.h).
 ghost use mathlib.Core.Path.{_≡_};
+ghost use Rattle.image.specs.Reader.{ReadAnswer};
 ghost use Rattle.kyntulei.specs.Promise.{FreshAnswer, StepAnswer, RunAnswer};
 use algorithm::number;
 use engine::refuse_all;
 use engine::run;
 use engine::step;
+use image::read;
 use table::check::is_whole;
 use table::check::set_within;
 use table::fill::fill_fresh;
@@ -60,4 +62,12 @@ pub extern "C" fn kyntulei_run(table: &mut [u8], actions: &[u8], replies: &mut [
     } else {
         refuse_all(actions, replies) as u64
     }
+}
+
+// A table from its image, and where the bytes after the image begin.
+#[no_mangle]
+pub extern "C" fn kyntulei_read(image: &[u8], table: &mut [u8], end: &mut u64) -> u32
+    ensures { λ r. ⌜ ReadAnswer (now (image .entry)) (now (table .entry)) (now (end .entry)) r (now (table .exit)) (now (end .exit)) ⌝ }
+{
+    read(image, table, end)
 }

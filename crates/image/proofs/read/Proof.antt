@@ -11,7 +11,7 @@ same-length : tie.Need-same-length
 same-length c = search needs
 
 returns : tie.Need-returns
-returns c = (search needs, search (needs, kept-bytes), search (needs, kept-end))
+returns c = record { reply = search needs; bytes = search (needs, kept-bytes); end = search (needs, kept-end) }
 
 fill-requires : tie.Need-fill-requires
 fill-requires c κs = (search (needs, read-sized), (search (needs, read-few), search (needs, read-named)))
@@ -28,7 +28,7 @@ returns-2 c =
     let judged = filled .before .before in
     let bytes =
     read-bytes _ _ _ (judged .before .judge .ensures) (judged .if1 .left) _ (λ i. c .before .slice-known2 .given i .fits) (filled .fill .ensures) in
-    (search needs, bytes, search (needs, read-end))
+    record { reply = search needs; bytes = bytes; end = search (needs, read-end) }
 
 pub read-spec : {M : Type 1} → statement M
 read-spec =
