@@ -1,23 +1,38 @@
 -- What the reader's contract amounts to. Assumes nothing.
-use Prim.Native.Nat.{ℕ}
+use Prim.Native.Nat.{ℕ, _≤_}
+use native.Mathlib.Omega.{arith}
 use mathlib.Core.Path.{_≡_, refl, ap, sym, _∙_}
-use mathlib.Core.Bool.{false}
+use mathlib.Core.Bool.{true, false}
 use mathlib.Core.List.{List, _++_}
 use lib.ListN.{length}
 use borrow.Author.Tests.{not-true}
 use Rattle.algorithm.specs.Table.{Table, broken}
 use Rattle.algorithm.proofs.Sound.{sound-table}
-use Rattle.table.specs.Layout.{stored}
+use Rattle.table.specs.Layout.{stored, whole}
 use Rattle.table.proofs.BoolLaws.{is-true}
+use Rattle.table.proofs.Determined.{stored-whole}
 use Rattle.image.specs.Image.{image}
+use Rattle.image.specs.Parts.{countIn}
 use Rattle.image.specs.Reader.{readReply, readTable, readBytes, endAfter, ReadAnswer}
-use Rattle.image.proofs.ReplyLaws.{read-into, read-upto}
+use Rattle.image.proofs.ReplyLaws.{readable, read-into, read-upto}
 use Rattle.image.proofs.SoundRead.{read-sound}
 use Rattle.image.proofs.ReadBack.{number-back, table-back, end-back}
 
 -- Whatever bytes are read as a table, the table breaks no rule.
 pub not-broken : (im slice : List ℕ) → readReply im slice ≡ 0 → broken (readTable im) ≡ false
 not-broken im slice e = not-true (broken (readTable im)) (is-true _ (sound-table (read-sound im slice e) .no))
+
+-- What is left in the slice is then a whole table, and the end lies within the input.
+module _ (im slice : List ℕ) (e k : ℕ) (slice' : List ℕ) (e' : ℕ) (a : ReadAnswer im slice e k slice' e') (read : k ≡ 0) where
+  pub read-whole : whole slice' ≡ true
+  read-whole =
+      rw (a .bytes, read-into im slice k (a .reply) read)
+      (stored-whole (readTable im) (not-broken im slice (sym (a .reply) ∙ read)))
+
+  pub read-within : e' ≤ length im
+  read-within =
+      rw (a .end, read-upto im slice k (a .reply) read e)
+      (readable im slice (sym (a .reply) ∙ read) .named .each (countIn im) (omega arith) .within)
 
 -- The image of a table that breaks no rule, whatever bytes follow it, is read as that table: it is not refused, the slice has the
 -- table's bytes afterwards, and the end is where the image ends.

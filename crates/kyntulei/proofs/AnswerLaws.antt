@@ -6,13 +6,14 @@ use mathlib.Core.Path.{_≡_, sym, _∙_}
 use lib.ListN.{getD}
 use Rattle.algorithm.specs.Run.{step, runTo}
 use Rattle.table.specs.Layout.{tableIn, whole}
-use Rattle.table.proofs.Determined.{held-stored, whole-held, whole-sound}
+use Rattle.table.proofs.Determined.{held-stored}
 use Rattle.engine.specs.Engine.{Ready, Stepped, played, Played, AllRefused}
+use Rattle.engine.proofs.ReadyLaws.{whole-ready}
 use Rattle.kyntulei.specs.Promise.{StepAnswer, RunAnswer}
 
 module _ (b : List ℕ) (q : Bool) (is : q ≡ whole b) where
   pub ready : q ≡ true → Ready b
-  ready e = record { held = whole-held b (sym is ∙ e); sound = whole-sound b (sym is ∙ e) }
+  ready e = whole-ready b (sym is ∙ e)
 
   module _ (a : List ℕ) where
     pub step-answer : (b' : List ℕ) (k r : ℕ) → ((i : ℕ) → getD b' i 0 < 256) → q ≡ true → Stepped b a k b' → r ≡ k → StepAnswer b a r b'

@@ -42,12 +42,12 @@ pub fn cut_line(buffer: &mut [u8], k: u32) -> usize
 }
 
 // The reader refuses the image with the number r.
-pub fn bad_site_line(buffer: &mut [u8], r: u8) -> usize
+pub fn bad_site_line(buffer: &mut [u8], r: u32) -> usize
     requires { do ⌜ (← ⟦LINE_ROOM⟧) ≤ length (now buffer) ⌝ }
     ensures { λ n. ⌜ Filled (now (buffer .entry)) (now (buffer .exit)) (badSiteLine r) n ⌝ }
 {
     let end = put_word(buffer, 0, b"bad site");
-    let end = put_field(buffer, end, r as u32);
+    let end = put_field(buffer, end, r);
     put_byte(buffer, end, b'\n')
 }
 

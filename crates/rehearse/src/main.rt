@@ -1,0 +1,63 @@
+// Rehearses a plan. Standard input is a table's image and the actions behind it; standard output tells the reply to each action and the table
+// that is left. What is printed, and the table, are proved in `report`, `image` and `engine`; here they are put together.
+ghost use mathlib.Core.Path.{_≡_};
+ghost use Prim.Native.Nat.{_≤_};
+ghost use lib.ListN.{length};
+ghost use Rattle.engine.specs.Engine.{Ready};
+ghost use Rattle.table.specs.Slice.{Held};
+use crate::say::say_bad_site;
+use crate::say::say_cut;
+use crate::say::say_replies;
+use crate::say::say_table;
+use crate::say::say_too_long;
+use engine::run;
+use image::read;
+use libc::STDIN_FILENO;
+use table::BYTES;
+
+mod say;
+
+// The longest input, and the most actions that such an input has.
+const MOST: usize = 65536;
+
+const REPLIES: usize = 8192;
+
+fn play(t: &mut [u8], actions: &[u8])
+    requires { ⌜ Ready (now t) ⌝ }
+    requires { ⌜ length (now actions) ≤ 65536 ⌝ }
+    ensures { λ _. ⌜ Held (now (t .exit)) ⌝ }
+{
+    let mut replies = [0u8; REPLIES];
+    let whole = actions.len() - actions.len() % 8;
+    let n = run(t, &actions[..whole], &mut replies);
+    say_replies(&replies, n);
+    if whole < actions.len() {
+        say_cut(n as u32 + 1);
+    }
+}
+
+fn rehearse(input: &[u8])
+    requires { ⌜ length (now input) ≤ 65536 ⌝ }
+    ensures { λ _. ⊤ₛ }
+{
+    let mut t = [0u8; BYTES];
+    let mut end: u64 = 0;
+    let number = read(input, &mut t, &mut end);
+    if number != 0 {
+        say_bad_site(number);
+        return;
+    }
+    let at = end as usize;
+    play(&mut t, &input[at..]);
+    say_table(&t);
+}
+
+fn main() {
+    let mut input = [0u8; MOST + 1];
+    let n = io::read_full(STDIN_FILENO, &mut input);
+    if MOST < n {
+        say_too_long();
+        return;
+    }
+    rehearse(&input[..n]);
+}
