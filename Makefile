@@ -1,19 +1,36 @@
 # The commands of the project; `make help` lists them.
 
 ARCHIVE = target/staticlib/libkyntulei.a
+PROGRAM = target/bin/rehearse
+COUNT = 2000
 
-.PHONY: help test c-tests bench archive
+.PHONY: help test demo soak c-tests rehearsals bench archive program
 
 help:
-	@echo "make test     the gate: proves every crate from nothing, tries every must-fail edit, runs every test"
-	@echo "make c-tests  the tests in C alone, over the archive of the exported functions"
-	@echo "make bench    instructions an action, beside the engine in plain C"
+	@echo "make test       the gate: proves every crate from nothing, tries every must-fail edit, runs every test"
+	@echo "make demo       builds the program and rehearses one evening in front of you"
+	@echo "make soak       compares the program with the plain one on COUNT=$(COUNT) inputs drawn from SEED=1"
+	@echo "make c-tests    the tests in C alone, over the archive of the exported functions"
+	@echo "make bench      instructions an action, beside the engine in plain C"
 
 test:
 	@tests/gate
 
+demo: program
+	@sed 's/^/    /' tests/sites/whole.txt
+	@echo
+	@echo 'tests/site < tests/sites/whole.txt | ./rehearse'
+	@echo
+	@tests/site <tests/sites/whole.txt | ./rehearse | sed 's/^/    /'
+
+soak:
+	@$(MAKE) --no-print-directory rehearsals COUNT=$(COUNT)
+
 c-tests: archive
 	@$(MAKE) --no-print-directory -C tests test ENGINE=$(abspath $(ARCHIVE))
+
+rehearsals: program
+	@$(MAKE) --no-print-directory -C tests rehearsals PROGRAM=$(abspath $(PROGRAM))
 
 bench: archive
 	@tests/need bench
@@ -22,3 +39,8 @@ bench: archive
 archive:
 	@mkdir -p target
 	@rt staticlib kyntulei >target/staticlib.log 2>&1 || { cat target/staticlib.log; exit 1; }
+
+program:
+	@tests/need
+	@mkdir -p target
+	@rt check rehearse >target/program.log 2>&1 || { cat target/program.log; exit 1; }
