@@ -17,7 +17,7 @@ use Rattle.table.specs.Check.{between}
 use Rattle.table.proofs.WordLaws.{FourBytes, length-bytes, words-bytes}
 use Rattle.table.proofs.SoundLaws.{terms-sound}
 use Rattle.image.specs.Image.{kept, trimmed, marksBody, serverBody}
-use Rattle.image.specs.Parts.{marksIn, serverIn, soundMarksBody, soundServerBody}
+use Rattle.bodies.specs.Bodies.{marksIn, serverIn, soundMarksBody, soundServerBody}
 use Rattle.image.proofs.ImageLaws.{half-back}
 
 -- ---- marks without the 0 at their end

@@ -14,11 +14,13 @@ use Rattle.table.specs.Slice.{Holds, Held, Became, Within, changed, withRole, w
 use Rattle.table.proofs.WordLaws.{length-words}
 use Rattle.table.proofs.ListLaws.{replace-nth, nth-replace}
 use Rattle.table.proofs.HeldLaws.{its-table, held, again}
-use Rattle.image.specs.declared.bodies.Figures.{Figures}
-use Rattle.image.specs.Parts.{countIn, offset, stop, body, marksIn, serverIn}
+use Rattle.bodies.specs.declared.Figures.{Figures}
+use Rattle.contents.specs.Contents.{countIn, offset, stop}
+use Rattle.bodies.specs.Bodies.{body, marksIn, serverIn}
 use Rattle.image.specs.Reader.{serversTo, readTable}
-use Rattle.image.specs.Asked.{Names, Named, Sized, figuresOf, withFigures, withMarks, unread}
-use Rattle.image.proofs.BodyLaws.{length-rest, part-body}
+use Rattle.bodies.specs.Asked.{Names, Named, Sized, figuresOf, withFigures}
+use Rattle.image.specs.Filling.{withMarks, unread}
+use Rattle.bodies.proofs.BodyLaws.{length-rest, part-body}
 
 -- one change after another
 onward : {b b₁ b₂ : List ℕ} {t : Table} (f : Table → Table) → Became b b₁ t → Became b₁ b₂ (f (tableIn b₁)) → Became b b₂ (f t)

@@ -1,7 +1,4 @@
 -- The laws of the reader.
-pub mod BelowLaws
-pub mod ContentsLaws
-pub mod BodyLaws
 pub mod FillLaws
 pub mod ReplyLaws
 pub mod SoundRead

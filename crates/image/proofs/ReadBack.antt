@@ -18,10 +18,11 @@ use Rattle.table.proofs.BoolLaws.{is-true}
 use Rattle.table.proofs.SoundLaws.{marks-sound}
 use Rattle.table.proofs.HeldLaws.{roomy-at}
 use Rattle.table.proofs.Determined.{its-shape}
-use Rattle.image.specs.Image.{opening, trimmed, marksBody, serverBody, bodies, contents, firstBody, image}
-use Rattle.image.specs.Parts.{opened, counted, offset, size, stop, start, mayHave, laid, laidOut, body, marksIn, serverIn, soundMarksBody, soundServerBody, soundAt, soundBodies}
+use Rattle.contents.specs.Contents.{firstBody, opened, counted, offset, size, stop, start, mayHave, laid, laidOut}
+use Rattle.image.specs.Image.{opening, trimmed, marksBody, serverBody, bodies, contents, image}
+use Rattle.bodies.specs.Bodies.{body, marksIn, serverIn, soundMarksBody, soundServerBody, soundAt, soundBodies}
 use Rattle.image.specs.Reader.{serversTo, readReply, readTable, readEnd}
-use Rattle.image.proofs.BelowLaws.{below-all}
+use Rattle.contents.proofs.BelowLaws.{below-all}
 use Rattle.image.proofs.ReplyLaws.{reply-0}
 use Rattle.image.proofs.ImageLaws.{place, place-last, place-most, joined, length-joined, length-contents, joined-offset, joined-size, joined-stop, joined-body}
 use Rattle.image.proofs.BodyBack.{length-trimmed, length-body, marks-back, marks-pass, server-back, server-pass}

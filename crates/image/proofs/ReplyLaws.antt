@@ -15,10 +15,11 @@ use Rattle.table.specs.Layout.{stored}
 use Rattle.table.specs.Slice.{Holds}
 use Rattle.table.proofs.BoolLaws.{three}
 use Rattle.table.proofs.Determined.{held-stored}
-use Rattle.image.specs.Parts.{opened, countIn, counted, offset, size, stop, start, fixed, mayHave, laid, laidOut, soundBodies}
+use Rattle.contents.specs.Contents.{opened, countIn, counted, offset, size, stop, start, fixed, mayHave, laid, laidOut}
+use Rattle.bodies.specs.Bodies.{soundBodies}
 use Rattle.image.specs.Reader.{readRefusals, readReply, readTable, readEnd, readBytes, endAfter}
-use Rattle.image.specs.Asked.{Names, Named}
-use Rattle.image.proofs.BelowLaws.{all-below}
+use Rattle.bodies.specs.Asked.{Names, Named}
+use Rattle.contents.proofs.BelowLaws.{all-below}
 
 -- ---- the refusals one by one
 

@@ -13,9 +13,10 @@ use Rattle.table.specs.Words.{words}
 use Rattle.table.specs.Layout.{padded}
 use Rattle.table.specs.Check.{between}
 use Rattle.table.proofs.LayoutLaws.{length-padded}
-use Rattle.image.specs.Parts.{countIn, body, serverIn, soundAt, soundBodies}
+use Rattle.contents.specs.Contents.{countIn}
+use Rattle.bodies.specs.Bodies.{body, serverIn, soundAt, soundBodies}
 use Rattle.image.specs.Reader.{serversTo, readReply, readTable}
-use Rattle.image.proofs.BelowLaws.{all-below}
+use Rattle.contents.proofs.BelowLaws.{all-below}
 use Rattle.image.proofs.FillLaws.{length-servers}
 use Rattle.image.proofs.ReplyLaws.{readable}
 

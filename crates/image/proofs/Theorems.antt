@@ -12,7 +12,7 @@ use Rattle.table.specs.Layout.{stored, whole}
 use Rattle.table.proofs.BoolLaws.{is-true}
 use Rattle.table.proofs.Determined.{stored-whole}
 use Rattle.image.specs.Image.{image}
-use Rattle.image.specs.Parts.{countIn}
+use Rattle.contents.specs.Contents.{countIn}
 use Rattle.image.specs.Reader.{readReply, readTable, readBytes, endAfter, ReadAnswer}
 use Rattle.image.proofs.ReplyLaws.{readable, read-into, read-upto}
 use Rattle.image.proofs.SoundRead.{read-sound}

@@ -1,10 +1,11 @@
 -- The image of a table: the opening, the contents, the bodies. Assumes nothing.
-use Prim.Native.Nat.{ℕ, zero, suc, _+_, _*_, _/_, _%_}
+use Prim.Native.Nat.{ℕ, zero, suc, _+_, _/_, _%_}
 use mathlib.Core.List.{List, [], _∷_, _++_, map, flatten}
 use lib.ListN.{length}
 use Rattle.algorithm.specs.Table.{Server, Table, count}
 use Rattle.table.specs.Words.{bytes}
 use Rattle.table.specs.Layout.{terms}
+use Rattle.contents.specs.Contents.{firstBody}
 
 -- a number in two bytes, the low byte first
 abbrev pub half : ℕ → List ℕ
@@ -42,10 +43,6 @@ bodies t = marksBody (t .marks) ∷ map serverBody (t .servers)
 unfoldable pub contents : ℕ → List (List ℕ) → List ℕ
 contents at [] = []
 contents at (b ∷ bs) = half at ++ (half (length b) ++ contents (at + length b) bs)
-
--- where the first body begins, in an image of n servers
-abbrev pub firstBody : ℕ → ℕ
-firstBody n = 12 + 4 * n
 
 -- the opening, the contents, and the bodies one after another
 unfoldable pub image : Table → List ℕ

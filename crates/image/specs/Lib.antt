@@ -1,5 +1,4 @@
--- A table as an image. In the order to read: the image of a table, what is read of any bytes, the reader's replies, what contracts ask.
+-- A table as an image. In the order to read: the image of a table, the reader's replies, the table while it is filled.
 pub mod Image
-pub mod Parts
 pub mod Reader
-pub mod Asked
+pub mod Filling

@@ -1,5 +1,5 @@
 -- The reader: its refusals, and what it gives where none holds. Assumes nothing.
-use Prim.Native.Nat.{ℕ, zero, suc}
+use Prim.Native.Nat.{ℕ, zero, suc, _+_}
 use mathlib.Core.Bool.{cond, not}
 use mathlib.Core.Path.{_≡_}
 use mathlib.Core.List.{List, [], _∷_, _++_}
@@ -9,7 +9,8 @@ use Rattle.algorithm.specs.Table.{Server, Table}
 use Rattle.algorithm.specs.Actions.{Refusal, refuse}
 use Rattle.algorithm.specs.Refusals.{first}
 use Rattle.table.specs.Layout.{stored}
-use Rattle.image.specs.Parts.{opened, countIn, counted, stop, laidOut, body, marksIn, serverIn, soundBodies}
+use Rattle.contents.specs.Contents.{opened, countIn, counted, stop, laidOut}
+use Rattle.bodies.specs.Bodies.{body, marksIn, serverIn, soundBodies}
 
 -- the refusals for an image and the slice that a table is to be read into
 abbrev pub readRefusals : List ℕ → List ℕ → List Refusal

@@ -1,17 +1,15 @@
 // The reader of a table's image (specs/Image.antt): judged on the image alone, and only then is the slice written.
 ghost use mathlib.Core.Path.{_≡_};
 ghost use Rattle.image.specs.Reader.{readReply, readEnd, ReadAnswer};
-ghost use Rattle.image.specs.Asked.{Named};
-use crate::bodies::are_sound;
-use crate::contents::count_of;
-use crate::contents::is_counted;
-use crate::contents::is_laid_out;
-use crate::contents::is_opened;
-use crate::contents::stop_of;
+ghost use Rattle.bodies.specs.Asked.{Named};
 use crate::fill::fill;
+use bodies::are_sound;
+use contents::count_of;
+use contents::is_counted;
+use contents::is_laid_out;
+use contents::is_opened;
+use contents::stop_of;
 
-mod bodies;
-mod contents;
 mod fill;
 
 // The reply's number. Each test stands on those before it: contents are read once they are known to be complete, and bodies once they

@@ -1,6 +1,6 @@
 -- `image::fill::fill_server` meets its contract. Assumes nothing.
 use borrow.Author.Needs.{needs}
-use Rattle.image.proofs.BodyLaws.{part-sized}
+use Rattle.bodies.proofs.BodyLaws.{part-sized}
 use Rattle.image.proofs.FillLaws.{named-filled}
 use Rattle.image.proofs.fill.fill_server.Statement.{statement}
 use Rattle.image.proofs.fill.fill_server.Tie as tie

@@ -2,7 +2,7 @@
 use borrow.Author.Needs.{needs}
 use Prim.Native.Nat.{_-_}
 use Rattle.table.proofs.HeldLaws.{held}
-use Rattle.image.proofs.BodyLaws.{name-next}
+use Rattle.bodies.proofs.BodyLaws.{name-next}
 use Rattle.image.proofs.FillLaws.{Filled, filled-none, filled-within, filled-empty, filled-more, filled-all}
 use Rattle.image.proofs.fill.fill_servers.Statement.{statement}
 use Rattle.image.proofs.fill.fill_servers.Tie as tie

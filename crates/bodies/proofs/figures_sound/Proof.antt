@@ -1,0 +1,14 @@
+-- `bodies::figures_sound` meets its contract. Assumes nothing.
+use borrow.Author.Needs.{needs}
+use Rattle.bodies.proofs.BodyLaws.{figures-tell}
+use Rattle.bodies.proofs.figures_sound.Statement.{statement}
+use Rattle.bodies.proofs.figures_sound.Tie as tie
+
+is-within-requires : tie.Need-is-within-requires
+is-within-requires c κs = search needs
+
+returns : tie.Need-returns
+returns c = search (needs, figures-tell)
+
+pub figures-sound-spec : {M : Type 1} → statement M
+figures-sound-spec = tie.close (tie.spec is-within-requires returns)

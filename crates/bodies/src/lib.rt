@@ -1,0 +1,120 @@
+// Whether the bodies' fields keep the rules. A body is the part of the image that its entry names: what judges it sees nothing else.
+ghost use mathlib.Core.Path.{_≡_};
+ghost use Prim.Native.Nat.{_+_, _*_, _≤_};
+ghost use lib.ListN.{length};
+ghost use Rattle.algorithm.specs.Table.{absent, every, soundServer};
+ghost use Rattle.table.specs.Words.{words};
+ghost use Rattle.table.specs.Check.{part, between};
+ghost use Rattle.bodies.specs.Bodies.{serverIn, soundMarksBody, soundServerBody, soundAt, soundBodies};
+ghost use Rattle.bodies.specs.Asked.{Names, Named, Sized, figuresOf, withFigures};
+use algorithm::Term;
+use algorithm::Version;
+use contents::count_of;
+use contents::half;
+use contents::offset_of;
+use contents::stop_of;
+use contents::wide;
+use members::is_within;
+use table::words::word;
+
+// The largest term and the largest version.
+const CEILING: u32 = 1_000_000_000;
+
+// Each of the n words from word k is from low to high.
+fn all_between(b: &[u8], k: usize, n: usize, low: u32, high: u32) -> bool
+    requires { ⌜ 4 * (k + n) ≤ length (now b) ⌝ }
+    ensures { λ r. ⌜ r ≡ every (between low high) (part (words (now (b .entry))) k n) ⌝ }
+{
+    let mut ok = true;
+    let mut i: usize = 0;
+    while i < n {
+        let v = word(b, k + i);
+        ok = ok & ((low <= v) & (v <= high));
+        i += 1;
+    }
+    ok
+}
+
+fn marks_sound(b: &[u8]) -> bool
+    ensures { λ r. ⌜ r ≡ soundMarksBody (now (b .entry)) ⌝ }
+{
+    let n = b.len() / 4;
+    if n == 0 {
+        return true;
+    }
+    let ok = all_between(b, 0, n, 0, CEILING);
+    let last = word(b, n - 1);
+    ok & (1 <= last)
+}
+
+// A server's figures, all but its log.
+pub struct Figures {
+    pub role: u32,
+    pub term: Term,
+    pub set: u16,
+    pub version: Version,
+    pub config: Term,
+}
+
+pub fn figures_of(b: &[u8]) -> Figures
+    requires { ⌜ Sized (now b) ⌝ }
+    ensures { λ r. ⌜ r ≡ figuresOf (serverIn (now (b .entry))) ⌝ }
+{
+    Figures {
+        role: wide(b[0]),
+        term: Term(word(b, 1)),
+        set: half(b, 2),
+        version: Version(word(b, 2)),
+        config: Term(word(b, 3)),
+    }
+}
+
+// The figures are those of a server of a table of n.
+fn figures_sound(f: Figures, n: u8) -> bool
+    ensures { λ r. ⌜ r ≡ soundServer n (withFigures f absent) ⌝ }
+{
+    let role_sound = (f.role == 1) & (1 <= f.term.0) | (f.role == 0);
+    let config_sound = is_within(f.set, n)
+        & (1 <= f.version.0)
+        & (f.version.0 <= CEILING)
+        & (f.config.0 <= CEILING);
+    role_sound & (f.term.0 <= CEILING) & config_sound
+}
+
+fn server_sound(b: &[u8], n: u8) -> bool
+    requires { ⌜ Sized (now b) ⌝ }
+    ensures { λ r. ⌜ r ≡ soundServerBody n (now (b .entry)) ⌝ }
+{
+    let spare = b[1];
+    let figures = figures_sound(figures_of(b), n);
+    let entries = all_between(b, 4, b.len() / 4 - 4, 1, CEILING);
+    (spare == 0) & figures & entries
+}
+
+fn body_sound(image: &[u8], e: usize) -> bool
+    requires { ⌜ Names (now image) e ⌝ }
+    ensures { λ r. ⌜ r ≡ soundAt (now (image .entry)) e ⌝ }
+{
+    let at = offset_of(image, e);
+    let stop = stop_of(image, e);
+    if 1 <= e {
+        let n = image[4];
+        return server_sound(&image[at..stop], n);
+    }
+    marks_sound(&image[at..stop])
+}
+
+// Whether the fields of every body keep the rules.
+pub fn are_sound(image: &[u8]) -> bool
+    requires { ⌜ Named (now image) ⌝ }
+    ensures { λ r. ⌜ r ≡ soundBodies (now (image .entry)) ⌝ }
+{
+    let n = count_of(image);
+    let mut ok = true;
+    let mut e: usize = 0;
+    while e <= n {
+        ok = ok & body_sound(image, e);
+        e += 1;
+    }
+    ok
+}
