@@ -83,6 +83,17 @@ termAt l p = entryAt l p .term
 abbrev pub mark : Table → ℕ → ℕ
 mark t p = nth (t .marks) p 0
 
+-- m before marks that do not end with 0, so that they still do not: 0 before none is none
+abbrev pub kept : ℕ → List ℕ → List ℕ
+kept zero [] = []
+kept (suc m) [] = suc m ∷ []
+kept m (x ∷ l) = m ∷ x ∷ l
+
+-- marks through the last one that is not 0
+unfoldable pub trimmed : List ℕ → List ℕ
+trimmed [] = []
+trimmed (m ∷ ms) = kept m (trimmed ms)
+
 -- ---- rules
 
 -- the largest term and the largest version

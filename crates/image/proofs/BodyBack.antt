@@ -8,7 +8,7 @@ use lib.Dec.{leb, eqb, le→leb}
 use lib.ListN.{length, length-map}
 use borrow.Author.Tests.{ne-eqb}
 use Rattle.members.proofs.Tests.{Passes, both, together, at-most}
-use Rattle.algorithm.specs.Table.{Entry, Log, Server, nth, every, ceiling, soundServer}
+use Rattle.algorithm.specs.Table.{Entry, Log, Server, nth, every, ceiling, soundServer, kept, trimmed}
 use Rattle.algorithm.proofs.Lists.{every-cons, cons-every}
 use Rattle.algorithm.proofs.Sound.{SoundServer, server-sound}
 use Rattle.table.specs.Words.{wordOf, words}
@@ -16,7 +16,7 @@ use Rattle.table.specs.Layout.{padded, terms, entries}
 use Rattle.table.specs.Check.{between}
 use Rattle.table.proofs.WordLaws.{FourBytes, length-bytes, words-bytes}
 use Rattle.table.proofs.SoundLaws.{terms-sound}
-use Rattle.image.specs.Image.{kept, trimmed, marksBody, serverBody}
+use Rattle.image.specs.Image.{marksBody, serverBody}
 use Rattle.bodies.specs.Bodies.{marksIn, serverIn, soundMarksBody, soundServerBody}
 use Rattle.image.proofs.ImageLaws.{half-back}
 

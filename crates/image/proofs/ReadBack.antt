@@ -8,7 +8,7 @@ use lib.Dec.{leb, eqb}
 use lib.ListN.{length, getD, take, length-append, length-map, List·getD-map}
 use lib.Seq.{take-suc, take-length}
 use Rattle.members.proofs.Tests.{Passes, together, is-equal, is-at-most}
-use Rattle.algorithm.specs.Table.{Server, Table, absent, nth, every, count, ceiling, soundServer, broken}
+use Rattle.algorithm.specs.Table.{Server, Table, absent, nth, every, count, ceiling, soundServer, broken, trimmed}
 use Rattle.algorithm.proofs.Lists.{every-nth}
 use Rattle.algorithm.proofs.Sound.{SoundTable, table-sound}
 use Rattle.table.specs.Slice.{AllRoomy, Shaped}
@@ -19,7 +19,7 @@ use Rattle.table.proofs.SoundLaws.{marks-sound}
 use Rattle.table.proofs.HeldLaws.{roomy-at}
 use Rattle.table.proofs.Determined.{its-shape}
 use Rattle.contents.specs.Contents.{firstBody, opened, counted, offset, size, stop, start, mayHave, laid, laidOut}
-use Rattle.image.specs.Image.{opening, trimmed, marksBody, serverBody, bodies, contents, image}
+use Rattle.image.specs.Image.{opening, marksBody, serverBody, bodies, contents, image}
 use Rattle.bodies.specs.Bodies.{body, marksIn, serverIn, soundMarksBody, soundServerBody, soundAt, soundBodies}
 use Rattle.image.specs.Reader.{serversTo, readReply, readTable, readEnd}
 use Rattle.contents.proofs.BelowLaws.{below-all}

@@ -1,8 +1,8 @@
 -- The image of a table: the opening, the contents, the bodies. Assumes nothing.
-use Prim.Native.Nat.{ℕ, zero, suc, _+_, _/_, _%_}
+use Prim.Native.Nat.{ℕ, _+_, _/_, _%_}
 use mathlib.Core.List.{List, [], _∷_, _++_, map, flatten}
 use lib.ListN.{length}
-use Rattle.algorithm.specs.Table.{Server, Table, count}
+use Rattle.algorithm.specs.Table.{Server, Table, count, trimmed}
 use Rattle.table.specs.Words.{bytes}
 use Rattle.table.specs.Layout.{terms}
 use Rattle.contents.specs.Contents.{firstBody}
@@ -14,17 +14,6 @@ half v = v % 256 ∷ v / 256 % 256 ∷ []
 -- the letters SITE, the number of servers, three 0
 abbrev pub opening : ℕ → List ℕ
 opening n = 83 ∷ 73 ∷ 84 ∷ 69 ∷ n ∷ 0 ∷ 0 ∷ 0 ∷ []
-
--- a mark put before marks that do not end with 0, so that they still do not: 0 before none is none
-abbrev pub kept : ℕ → List ℕ → List ℕ
-kept zero [] = []
-kept (suc m) [] = suc m ∷ []
-kept m (x ∷ l) = m ∷ x ∷ l
-
--- the marks without the 0 at their end
-unfoldable pub trimmed : List ℕ → List ℕ
-trimmed [] = []
-trimmed (m ∷ ms) = kept m (trimmed ms)
 
 -- the marks in four bytes each
 abbrev pub marksBody : List ℕ → List ℕ

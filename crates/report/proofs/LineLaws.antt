@@ -6,9 +6,11 @@ use mathlib.Core.List.{List, _++_}
 use lib.ListN.{take}
 use borrow.Author.Tests.{eq-eqb, ne-eqb}
 use Rattle.table.specs.declared.rows.Row.{Row}
-use Rattle.report.specs.Lines.{text, decimal, field, fields, reply, repliedLine, cutLine, badSiteLine, tooLongLine, letter, figures, shownRow, marksLine}
-use Rattle.report.specs.Buffer.{Wrote, WroteShort, Filled, Through}
-use Rattle.report.proofs.WroteLaws.{then, filled}
+use Rattle.texts.specs.Texts.{text, decimal, field, fields}
+use Rattle.report.specs.Lines.{reply, repliedLine, cutLine, badSiteLine, tooLongLine, letter, figures, shownRow, marksLine}
+use Rattle.texts.specs.Buffer.{Wrote, WroteShort, Filled}
+use Rattle.report.specs.Marks.{Through}
+use Rattle.texts.proofs.WroteLaws.{then, filled}
 
 -- ---- parts of a line
 
@@ -26,10 +28,6 @@ module _ (b b₁ : List ℕ) (at e : ℕ) where
   secondary r h w = record { wrote = rw (ne-eqb r 1 h) w; short = omega (arith, w .end) }
 
 module _ (b b₁ b₂ : List ℕ) (at d e : ℕ) where
-  pub a-field : (v : ℕ) → Wrote b b₁ at (text " ") d → WroteShort 10 b₁ b₂ d (decimal v) e → WroteShort 11 b b₂ at (field v) e
-  unfolding field
-  a-field v s w = record { wrote = then s (w .wrote); short = omega (arith, s .end, w .short) }
-
   pub refused : (r : ℕ) → (r ≡ 0 → ⊥) → Wrote b b₁ at (text " refused") d → WroteShort 11 b₁ b₂ d (field r) e → WroteShort 19 b b₂ at (reply r) e
   unfolding reply
   refused zero h w f = absurd (h refl)

@@ -6,31 +6,30 @@ use mathlib.Core.Path.{_≡_, refl, ap, sym, _∙_}
 use mathlib.Core.List.{List, [], _∷_, _++_}
 use lib.ListN.{take}
 use lib.Seq.{take-suc, take-all}
-use Rattle.algorithm.specs.Table.{nth, mark}
+use Rattle.algorithm.specs.Table.{nth, mark, kept, trimmed}
 use Rattle.table.specs.Layout.{tableIn}
 use Rattle.table.specs.Slice.{Held}
-use Rattle.report.specs.Lines.{field, fields, before, trimmed}
-use Rattle.report.specs.Buffer.{WroteShort, Through}
-use Rattle.report.proofs.FieldLaws.{one-field, more-fields}
+use Rattle.texts.specs.Texts.{field, fields}
+use Rattle.texts.specs.Buffer.{WroteShort}
+use Rattle.report.specs.Marks.{Through}
+use Rattle.texts.proofs.FieldLaws.{one-field, more-fields}
 
 -- ---- the last mark that is not 0
 
 trim-zero : (l : List ℕ) → trimmed (l ++ (0 ∷ [])) ≡ trimmed l
-unfolding trimmed before
+unfolding trimmed
 trim-zero [] = refl
-trim-zero (x ∷ l) = ap (before x) (trim-zero l)
+trim-zero (x ∷ l) = ap (kept x) (trim-zero l)
 
-before-more : (x v : ℕ) (l : List ℕ) → before x (l ++ (v ∷ [])) ≡ x ∷ (l ++ (v ∷ []))
-unfolding before
-before-more zero v [] = refl
-before-more zero v (y ∷ l) = refl
-before-more (suc x) v l = refl
+kept-more : (x v : ℕ) (l : List ℕ) → kept x (l ++ (v ∷ [])) ≡ x ∷ (l ++ (v ∷ []))
+kept-more x v [] = refl
+kept-more x v (y ∷ l) = refl
 
 trim-mark : (l : List ℕ) (v : ℕ) → (v ≡ 0 → ⊥) → trimmed (l ++ (v ∷ [])) ≡ l ++ (v ∷ [])
-unfolding trimmed before
+unfolding trimmed
 trim-mark [] zero h = absurd (h refl)
 trim-mark [] (suc v) h = refl
-trim-mark (x ∷ l) v h = ap (before x) (trim-mark l v h) ∙ before-more x v l
+trim-mark (x ∷ l) v h = ap (kept x) (trim-mark l v h) ∙ kept-more x v l
 
 -- no mark behind the first n is shown
 pub record Looked (ms : List ℕ) (n : ℕ) : Type 0 where

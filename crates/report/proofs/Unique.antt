@@ -3,7 +3,7 @@
 use Prim.Native.Nat.{ℕ}
 use mathlib.Core.Path.{_≡_, sym, _∙_}
 use mathlib.Core.List.{List}
-use Rattle.report.specs.Buffer.{Filled}
+use Rattle.texts.specs.Buffer.{Filled}
 
 pub unique : {b b₁ b₂ l : List ℕ} {r₁ r₂ : ℕ} → Filled b b₁ l r₁ → Filled b b₂ l r₂ → (r₁ ≡ r₂) × (b₁ ≡ b₂)
 unique f g = (f .counted ∙ sym (g .counted), f .bytes ∙ sym (g .bytes))

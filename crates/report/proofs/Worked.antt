@@ -2,13 +2,14 @@
 use mathlib.Core.Path.{_≡_, refl}
 use lib.Count.{ones}
 use Rattle.members.specs.Members.{mask}
-use Rattle.algorithm.specs.Table.{nth, replace, every, broken}
+use Rattle.algorithm.specs.Table.{nth, replace, every, trimmed, broken}
 use Rattle.algorithm.specs.Actions.{votersFrom, someMarked, holdsMarked}
 use Rattle.algorithm.specs.Refusals.{refusals, first, after}
 use Rattle.algorithm.specs.Run.{step, pieces, play}
-use Rattle.report.specs.Lines.{digits, decimal, field, fields, reply, repliedLine, letter, shownRow, before, trimmed, marksLine}
+use Rattle.texts.specs.Texts.{digits, decimal, field, fields}
+use Rattle.report.specs.Lines.{reply, repliedLine, letter, shownRow, marksLine}
 use Rattle.report.specs.Case.{repliedLines, rowLines, given, expected}
 
 pub case-holds : given ≡ expected
-unfolding given expected repliedLines rowLines digits decimal field fields reply repliedLine letter shownRow before trimmed marksLine ones mask nth replace every broken votersFrom someMarked holdsMarked refusals first after step pieces play
+unfolding given expected repliedLines rowLines digits decimal field fields reply repliedLine letter shownRow trimmed marksLine ones mask nth replace every broken votersFrom someMarked holdsMarked refusals first after step pieces play
 case-holds = refl

@@ -5,7 +5,8 @@ use mathlib.Core.List.{List, [], _∷_, _++_, map}
 use Rattle.algorithm.specs.Table.{Server, fresh}
 use Rattle.algorithm.specs.Run.{Ran, run}
 use Rattle.algorithm.specs.Cases.{bytes}
-use Rattle.report.specs.Lines.{text, repliedLine, rowLine, marksLine}
+use Rattle.texts.specs.Texts.{text}
+use Rattle.report.specs.Lines.{repliedLine, rowLine, marksLine}
 
 -- the lines of actions, the first of which has the number k
 unfoldable pub repliedLines : ℕ → List ℕ → List (List ℕ)

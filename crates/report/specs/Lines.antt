@@ -1,41 +1,12 @@
 -- The lines that `rehearse` prints, as bytes. Assumes nothing.
-use Prim.Native.Char.{code}
-use Prim.Native.Nat.{ℕ, zero, suc, _+_, _/_, _%_}
-use Prim.Native.String.{String}
-use Prim.Native.String as string
+use Prim.Native.Nat.{ℕ, zero, suc}
 use mathlib.Core.Bool.{cond}
 use mathlib.Core.List.{List, [], _∷_, _++_}
-use lib.Dec.{ltb, eqb}
-use Rattle.algorithm.specs.Table.{Server}
+use lib.Dec.{eqb}
+use Rattle.algorithm.specs.Table.{Server, trimmed}
 use Rattle.table.specs.Slice.{seen}
 use Rattle.table.specs.declared.rows.Row.{Row}
-
--- ---- texts and numbers
-
--- the bytes of a text
-abbrev pub text : String → List ℕ
-text string.[] = []
-text (string._∷_ c s) = code c ∷ text s
-
--- the digits of n, where k is more than n: those of a tenth of n, and the last one
-unfoldable pub digits : ℕ → ℕ → List ℕ
-digits zero n = []
-digits (suc k) n =
-    let more = digits k (n / 10) ++ ((48 + n % 10) ∷ []) in
-    cond (ltb n 10) ((48 + n) ∷ []) more
-
--- a number in decimal, with no 0 in front
-unfoldable pub decimal : ℕ → List ℕ
-decimal n = digits (suc n) n
-
--- a number behind a space
-unfoldable pub field : ℕ → List ℕ
-field n = text " " ++ decimal n
-
--- numbers in a row, each behind a space
-unfoldable pub fields : List ℕ → List ℕ
-fields [] = []
-fields (n ∷ l) = field n ++ fields l
+use Rattle.texts.specs.Texts.{text, decimal, field, fields}
 
 -- ---- lines on actions
 
@@ -79,17 +50,6 @@ shownRow s a = text "row" ++ field s ++ letter (a .role) ++ fields (figures a) +
 -- server s, which is a
 abbrev pub rowLine : ℕ → Server → List ℕ
 rowLine s a = shownRow s (seen a)
-
--- m in front of l, unless m is 0 and nothing follows
-unfoldable pub before : ℕ → List ℕ → List ℕ
-before zero [] = []
-before zero (x ∷ l) = zero ∷ x ∷ l
-before (suc m) l = suc m ∷ l
-
--- a list through its last number that is not 0
-unfoldable pub trimmed : List ℕ → List ℕ
-trimmed [] = []
-trimmed (m ∷ l) = before m (trimmed l)
 
 -- the marks of a table
 unfoldable pub marksLine : List ℕ → List ℕ

@@ -1,23 +1,22 @@
 // The lines that rehearse prints, each written at the start of a lent buffer. Every function answers how many bytes its line has.
 mod parts;
-mod put;
 
 ghost use Prim.Native.Nat.{_≤_};
 ghost use lib.ListN.{length};
 ghost use Rattle.table.specs.Layout.{tableIn};
 ghost use Rattle.table.specs.Slice.{Held};
 ghost use Rattle.report.specs.Lines.{repliedLine, cutLine, badSiteLine, tooLongLine, shownRow, marksLine};
-ghost use Rattle.report.specs.Buffer.{Filled};
+ghost use Rattle.texts.specs.Buffer.{Filled};
 use crate::parts::marked;
 use crate::parts::put_figures;
 use crate::parts::put_head;
 use crate::parts::put_marks;
 use crate::parts::put_reply;
-use crate::put::put_byte;
-use crate::put::put_decimal;
-use crate::put::put_field;
-use crate::put::put_word;
 use table::rows::Row;
+use texts::put_byte;
+use texts::put_decimal;
+use texts::put_field;
+use texts::put_word;
 
 // One buffer serves every line: the longest shows 64 marks of up to ten digits.
 pub const LINE_ROOM: usize = 1024;

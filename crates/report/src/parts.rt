@@ -4,13 +4,15 @@ ghost use Prim.Native.Nat.{_+_, _≤_};
 ghost use lib.ListN.{length, take};
 ghost use Rattle.table.specs.Layout.{tableIn};
 ghost use Rattle.table.specs.Slice.{Held};
-ghost use Rattle.report.specs.Lines.{text, field, fields, reply, letter, figures};
-ghost use Rattle.report.specs.Buffer.{WroteShort, Through};
-use crate::put::put_field;
-use crate::put::put_word;
+ghost use Rattle.texts.specs.Texts.{text, field, fields};
+ghost use Rattle.report.specs.Lines.{reply, letter, figures};
+ghost use Rattle.texts.specs.Buffer.{WroteShort};
+ghost use Rattle.report.specs.Marks.{Through};
 use algorithm::Position;
 use table::rows::Row;
 use table::rows::mark_of;
+use texts::put_field;
+use texts::put_word;
 
 pub(crate) fn put_reply(buffer: &mut [u8], at: usize, r: u8) -> usize
     requires { ⌜ at + 19 ≤ length (now buffer) ⌝ }

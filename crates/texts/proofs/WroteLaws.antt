@@ -7,7 +7,7 @@ use mathlib.Core.Path.{_≡_, ap, sym, _∙_}
 use mathlib.Core.List.{List, [], _∷_, _++_, append-assoc}
 use lib.ListN.{length, getD, take, drop, set, length-append, length-drop, take-append-drop}
 use lib.Seq.{length-take-le, take-all, take-at, take-suc, drop-drop, drop-append-add, set-split}
-use Rattle.report.specs.Buffer.{Wrote, Filled}
+use Rattle.texts.specs.Buffer.{Wrote, Filled}
 
 -- ---- at one place
 

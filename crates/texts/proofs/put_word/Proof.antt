@@ -1,12 +1,12 @@
--- `report::put::put_word` meets its contract. Assumes nothing.
+-- `texts::put_word` meets its contract. Assumes nothing.
 use Prim.Native.Nat.{_+_, _-_, _≤_}
 use mathlib.Core.Path.{_≡_}
 use borrow.Author.Needs.{needs}
 use lib.ListN.{length, take}
-use Rattle.report.specs.Buffer.{Wrote}
-use Rattle.report.proofs.WroteLaws.{wrote-none, wrote-more, wrote-all}
-use Rattle.report.proofs.put.put_word.Statement.{statement}
-use Rattle.report.proofs.put.put_word.Tie as tie
+use Rattle.texts.specs.Buffer.{Wrote}
+use Rattle.texts.proofs.WroteLaws.{wrote-none, wrote-more, wrote-all}
+use Rattle.texts.proofs.put_word.Statement.{statement}
+use Rattle.texts.proofs.put_word.Tie as tie
 
 abbrev Inv-loop : tie.InvT-loop
 Inv-loop buffer₀ at word end₀ i₀ buffer end i = (i ≤ length word) × (end ≡ at + i) × (length buffer ≡ length buffer₀) × Wrote buffer₀ buffer at (take i word) end

@@ -4,9 +4,13 @@ use native.Mathlib.Omega.{arith}
 use mathlib.Core.Path.{_≡_, refl, ap, sym, _∙_}
 use mathlib.Core.List.{List, [], _∷_, _++_, append-assoc, append-nil}
 use lib.ListN.{length}
-use Rattle.report.specs.Lines.{field, fields}
-use Rattle.report.specs.Buffer.{WroteShort}
-use Rattle.report.proofs.WroteLaws.{wrote-none, then}
+use Rattle.texts.specs.Texts.{text, decimal, field, fields}
+use Rattle.texts.specs.Buffer.{Wrote, WroteShort}
+use Rattle.texts.proofs.WroteLaws.{wrote-none, then}
+
+pub a-field : (b b₁ b₂ : List ℕ) (at d e v : ℕ) → Wrote b b₁ at (text " ") d → WroteShort 10 b₁ b₂ d (decimal v) e → WroteShort 11 b b₂ at (field v) e
+unfolding field
+a-field b b₁ b₂ at d e v s w = record { wrote = then s (w .wrote); short = omega (arith, s .end, w .short) }
 
 fields-append : (l m : List ℕ) → fields (l ++ m) ≡ fields l ++ fields m
 unfolding fields

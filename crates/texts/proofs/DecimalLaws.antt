@@ -6,9 +6,9 @@ use mathlib.Core.Path.{_≡_}
 use mathlib.Core.List.{List, [], _∷_, _++_}
 use lib.ListN.{length, length-append}
 use borrow.Author.Tests.{lt-ltb, le-ltb}
-use Rattle.report.specs.Lines.{digits, decimal}
-use Rattle.report.specs.Buffer.{Wrote, WroteShort}
-use Rattle.report.proofs.WroteLaws.{sized, then}
+use Rattle.texts.specs.Texts.{digits, decimal}
+use Rattle.texts.specs.Buffer.{Wrote, WroteShort}
+use Rattle.texts.proofs.WroteLaws.{sized, then}
 
 -- more than enough steps make no other digits
 enough : (k j n : ℕ) → n < k → n < j → digits k n ≡ digits j n

@@ -1,16 +1,16 @@
--- `report::put::put_decimal` meets its contract; the number falls from call to call. Assumes nothing.
+-- `texts::put_decimal` meets its contract; the number falls from call to call. Assumes nothing.
 use Prim.Native.Nat.{ℕ, _<_}
 use native.Mathlib.Omega.{arith}
 use borrow.Author.Needs.{needs}
 use borrow.Fn.Kinds.{In}
 use borrow.Fn.PlainCycle.{Measures, is, falls, and}
-use Rattle.report.proofs.DecimalLaws.{one-digit, last-room, last-digit}
-use Rattle.report.proofs.put.put_decimal.Reads as self
-use Rattle.report.proofs.put.put_decimal.Kinds.{ps}
-use Rattle.report.proofs.put.+put_decimal.Lts-put_decimal as lts
-use Rattle.report.proofs.put.put_digit.Reads as digit
-use Rattle.report.proofs.put.+put_decimal.{statement}
-use Rattle.report.proofs.put.+put_decimal.Tie.{close}
+use Rattle.texts.proofs.DecimalLaws.{one-digit, last-room, last-digit}
+use Rattle.texts.proofs.put_decimal.Reads as self
+use Rattle.texts.proofs.put_decimal.Kinds.{ps}
+use Rattle.texts.proofs.+put_decimal.Lts-put_decimal as lts
+use Rattle.texts.proofs.put_digit.Reads as digit
+use Rattle.texts.proofs.+put_decimal.{statement}
+use Rattle.texts.proofs.+put_decimal.Tie.{close}
 
 abbrev μ : Measures 1 ps ℕ
 μ κs a = a .1 .1 .0

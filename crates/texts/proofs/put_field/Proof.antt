@@ -1,8 +1,8 @@
--- `report::put::put_field` meets its contract. Assumes nothing.
+-- `texts::put_field` meets its contract. Assumes nothing.
 use borrow.Author.Needs.{needs}
-use Rattle.report.proofs.LineLaws.{a-field}
-use Rattle.report.proofs.put.put_field.Statement.{statement}
-use Rattle.report.proofs.put.put_field.Tie as tie
+use Rattle.texts.proofs.FieldLaws.{a-field}
+use Rattle.texts.proofs.put_field.Statement.{statement}
+use Rattle.texts.proofs.put_field.Tie as tie
 
 put-byte-requires : tie.Need-put-byte-requires
 put-byte-requires c κs = search needs

@@ -1,8 +1,8 @@
--- `report::put::put_byte` meets its contract. Assumes nothing.
+-- `texts::put_byte` meets its contract. Assumes nothing.
 use borrow.Author.Needs.{needs}
-use Rattle.report.proofs.WroteLaws.{wrote-byte}
-use Rattle.report.proofs.put.put_byte.Statement.{statement}
-use Rattle.report.proofs.put.put_byte.Tie as tie
+use Rattle.texts.proofs.WroteLaws.{wrote-byte}
+use Rattle.texts.proofs.put_byte.Statement.{statement}
+use Rattle.texts.proofs.put_byte.Tie as tie
 
 slice-write-buffer : tie.Need-slice-write-buffer
 slice-write-buffer c = search needs

@@ -1,9 +1,8 @@
--- What the functions promise of the buffer that they are lent, and of the marks that they look through. Assumes nothing.
+-- What is promised of a lent buffer. Assumes nothing.
 use Prim.Native.Nat.{ℕ, _+_, _≤_}
 use mathlib.Core.Path.{_≡_}
 use mathlib.Core.List.{List, _++_}
 use lib.ListN.{length, take, drop}
-use Rattle.report.specs.Lines.{trimmed}
 
 -- the buffer b has become b': l is written at a place, where there is room for it, and e is the place behind it
 pub record Wrote (b b' : List ℕ) (at : ℕ) (l : List ℕ) (e : ℕ) : Type 0 where
@@ -23,8 +22,3 @@ pub record Filled (b b' l : List ℕ) (r : ℕ) : Type 0 where
   pub bytes : b' ≡ l ++ drop (length l) b
   pub within : r ≤ length b'
   pub lent : r ≡ length (take r b')
-
--- the first n of the 64 marks are those through the last one that is not 0
-pub record Through (ms : List ℕ) (n : ℕ) : Type 0 where
-  pub few : n ≤ 64
-  pub shown : trimmed ms ≡ take n ms

@@ -2,10 +2,10 @@
 ghost use mathlib.Core.List.{[], _∷_};
 ghost use Prim.Native.Nat.{_+_, _≤_, _<_};
 ghost use lib.ListN.{length};
-ghost use Rattle.report.specs.Lines.{decimal, field};
-ghost use Rattle.report.specs.Buffer.{Wrote, WroteShort};
+ghost use Rattle.texts.specs.Texts.{decimal, field};
+ghost use Rattle.texts.specs.Buffer.{Wrote, WroteShort};
 
-pub(crate) fn put_byte(buffer: &mut [u8], at: usize, x: u8) -> usize
+pub fn put_byte(buffer: &mut [u8], at: usize, x: u8) -> usize
     requires { ⌜ at < length (now buffer) ⌝ }
     ensures { λ r. ⌜ Wrote (now (buffer .entry)) (now (buffer .exit)) at (x ∷ []) r ⌝ }
 {
@@ -13,7 +13,7 @@ pub(crate) fn put_byte(buffer: &mut [u8], at: usize, x: u8) -> usize
     at + 1
 }
 
-pub(crate) fn put_word(buffer: &mut [u8], at: usize, word: &[u8]) -> usize
+pub fn put_word(buffer: &mut [u8], at: usize, word: &[u8]) -> usize
     requires { ⌜ at + length (now word) ≤ length (now buffer) ⌝ }
     ensures { λ r. ⌜ Wrote (now (buffer .entry)) (now (buffer .exit)) at (now (word .entry)) r ⌝ }
 {
@@ -35,7 +35,7 @@ fn put_digit(buffer: &mut [u8], at: usize, d: u32) -> usize
 }
 
 // The digits before the last are put first, as the definition has them, so that none is counted or turned around; the calls go ten deep at most.
-pub(crate) fn put_decimal(buffer: &mut [u8], at: usize, v: u32) -> usize
+pub fn put_decimal(buffer: &mut [u8], at: usize, v: u32) -> usize
     requires { ⌜ at + 10 ≤ length (now buffer) ⌝ }
     ensures { λ r. ⌜ WroteShort 10 (now (buffer .entry)) (now (buffer .exit)) at (decimal v) r ⌝ }
 {
@@ -46,7 +46,7 @@ pub(crate) fn put_decimal(buffer: &mut [u8], at: usize, v: u32) -> usize
     put_digit(buffer, end, v % 10)
 }
 
-pub(crate) fn put_field(buffer: &mut [u8], at: usize, v: u32) -> usize
+pub fn put_field(buffer: &mut [u8], at: usize, v: u32) -> usize
     requires { ⌜ at + 11 ≤ length (now buffer) ⌝ }
     ensures { λ r. ⌜ WroteShort 11 (now (buffer .entry)) (now (buffer .exit)) at (field v) r ⌝ }
 {
