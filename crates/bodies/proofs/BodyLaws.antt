@@ -12,10 +12,9 @@ use borrow.Author.Tests.{le-leb, ne-eqb}
 use Rattle.members.specs.Members.{within}
 use Rattle.algorithm.specs.Table.{absent, nth, every, ceiling, soundEntry, soundServer}
 use Rattle.algorithm.specs.Actions.{withLog}
-use Rattle.table.specs.Words.{words}
+use Rattle.words.specs.Words.{words, part, between}
 use Rattle.table.specs.Layout.{entries}
-use Rattle.table.specs.Check.{part, between}
-use Rattle.table.proofs.WordLaws.{length-words}
+use Rattle.words.proofs.WordLaws.{length-words}
 use Rattle.table.proofs.SoundLaws.{server-parts}
 use Rattle.bodies.specs.declared.Figures.{Figures}
 use Rattle.contents.specs.Contents.{countIn, halfAt, offset, size, stop}

@@ -5,9 +5,8 @@ use mathlib.Core.List.{List}
 use lib.Dec.{leb, eqb}
 use lib.ListN.{length, getD, take, drop}
 use Rattle.algorithm.specs.Table.{Server, nth, every, ceiling, positions, soundServer}
-use Rattle.table.specs.Words.{words}
+use Rattle.words.specs.Words.{words, between}
 use Rattle.table.specs.Layout.{padded, entries}
-use Rattle.table.specs.Check.{between}
 use Rattle.contents.specs.Contents.{halfAt, countIn, offset, size, allBelow}
 
 -- the part of the input that entry e names

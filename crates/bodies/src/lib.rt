@@ -1,12 +1,9 @@
 // Whether the bodies' fields keep the rules. A body is the part of the image that its entry names: what judges it sees nothing else.
 ghost use mathlib.Core.Path.{_≡_};
-ghost use Prim.Native.Nat.{_+_, _*_, _≤_};
-ghost use lib.ListN.{length};
-ghost use Rattle.algorithm.specs.Table.{absent, every, soundServer};
-ghost use Rattle.table.specs.Words.{words};
-ghost use Rattle.table.specs.Check.{part, between};
+ghost use Rattle.algorithm.specs.Table.{absent, soundServer};
 ghost use Rattle.bodies.specs.Bodies.{serverIn, soundMarksBody, soundServerBody, soundAt, soundBodies};
 ghost use Rattle.bodies.specs.Asked.{Names, Named, Sized, figuresOf, withFigures};
+use algorithm::CEILING;
 use algorithm::Term;
 use algorithm::Version;
 use contents::count_of;
@@ -15,25 +12,8 @@ use contents::offset_of;
 use contents::stop_of;
 use contents::wide;
 use members::is_within;
-use table::words::word;
-
-// The largest term and the largest version.
-const CEILING: u32 = 1_000_000_000;
-
-// Each of the n words from word k is from low to high.
-fn all_between(b: &[u8], k: usize, n: usize, low: u32, high: u32) -> bool
-    requires { ⌜ 4 * (k + n) ≤ length (now b) ⌝ }
-    ensures { λ r. ⌜ r ≡ every (between low high) (part (words (now (b .entry))) k n) ⌝ }
-{
-    let mut ok = true;
-    let mut i: usize = 0;
-    while i < n {
-        let v = word(b, k + i);
-        ok = ok & ((low <= v) & (v <= high));
-        i += 1;
-    }
-    ok
-}
+use words::all_between;
+use words::word;
 
 fn marks_sound(b: &[u8]) -> bool
     ensures { λ r. ⌜ r ≡ soundMarksBody (now (b .entry)) ⌝ }

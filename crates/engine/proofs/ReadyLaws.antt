@@ -6,7 +6,7 @@ use mathlib.Core.Path.{_≡_}
 use Rattle.table.specs.Layout.{whole}
 use Rattle.table.specs.Slice.{Held}
 use Rattle.table.proofs.HeldLaws.{held}
-use Rattle.table.proofs.Determined.{whole-held, whole-sound}
+use Rattle.whole.proofs.Determined.{whole-held, whole-sound}
 use Rattle.engine.specs.Engine.{Ready, Played}
 
 pub whole-ready : (b : List ℕ) → whole b ≡ true → Ready b

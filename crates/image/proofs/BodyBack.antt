@@ -11,10 +11,10 @@ use Rattle.members.proofs.Tests.{Passes, both, together, at-most}
 use Rattle.algorithm.specs.Table.{Entry, Log, Server, nth, every, ceiling, soundServer, kept, trimmed}
 use Rattle.algorithm.proofs.Lists.{every-cons, cons-every}
 use Rattle.algorithm.proofs.Sound.{SoundServer, server-sound}
-use Rattle.table.specs.Words.{wordOf, words}
+use Rattle.words.specs.Words.{wordOf, words, between}
 use Rattle.table.specs.Layout.{padded, terms, entries}
-use Rattle.table.specs.Check.{between}
-use Rattle.table.proofs.WordLaws.{FourBytes, length-bytes, words-bytes}
+use Rattle.words.proofs.WordLaws.{FourBytes, length-bytes, words-bytes, words-between}
+use Rattle.table.proofs.LayoutLaws.{entries-terms}
 use Rattle.table.proofs.SoundLaws.{terms-sound}
 use Rattle.image.specs.Image.{marksBody, serverBody}
 use Rattle.bodies.specs.Bodies.{marksIn, serverIn, soundMarksBody, soundServerBody}
@@ -72,16 +72,9 @@ low-trimmed (m ∷ ms) h =
     let (here, rest) = every-cons (between 0 ceiling) m ms h in
     low-kept m (trimmed ms) here (low-trimmed ms rest)
 
--- what is at most the ceiling has room in four bytes
-four-bytes : (low : ℕ) (l : List ℕ) → Passes (every (between low ceiling) l) → FourBytes l
-four-bytes low [] h = tt
-four-bytes low (x ∷ l) h =
-    let (here, rest) = every-cons (between low ceiling) x l h in
-    (omega (arith, at-most {a = x} {b = ceiling} (both {a = leb low x} here .1)), four-bytes low l rest)
-
 module _ (ms : List ℕ) (low : Passes (every (between 0 ceiling) ms)) where
   words-marks : words (marksBody ms) ≡ trimmed ms
-  words-marks = words-bytes (trimmed ms) (four-bytes 0 (trimmed ms) (low-trimmed ms low))
+  words-marks = words-bytes (trimmed ms) (words-between 0 (trimmed ms) (low-trimmed ms low))
 
   pub marks-back : length ms ≡ 64 → marksIn (marksBody ms) ≡ ms
   marks-back full = rw (words-marks, ← full) (padded-trimmed ms)
@@ -91,10 +84,6 @@ module _ (ms : List ℕ) (low : Passes (every (between 0 ceiling) ms)) where
       rw words-marks (together {a = every (between 0 ceiling) (trimmed ms)} (low-trimmed ms low) (ends-trimmed ms))
 
 -- ---- a server
-
-entries-terms : (l : Log) → entries (terms l) ≡ l
-entries-terms [] = refl
-entries-terms (e ∷ l) = ap (λ (m : Log). e ∷ m) (entries-terms l)
 
 -- the numbers of four bytes in a server's body
 abbrev numbers : Server → List ℕ
@@ -115,7 +104,7 @@ module _ (n : ℕ) (s : Server) (h : Passes (soundServer n s)) (small : s .confi
       (words-bytes (numbers s) (omega (arith, rules .term), (omega (arith, rules .config .version), (omega (arith, rules .config .term), log))))
     where
       log : FourBytes (terms (s .log))
-      log = four-bytes 1 (terms (s .log)) (subst Passes (terms-sound (s .log)) (rules .entries))
+      log = words-between 1 (terms (s .log)) (subst Passes (terms-sound (s .log)) (rules .entries))
 
   pub server-back : serverIn (serverBody s) ≡ s
   server-back = rw (words-server, half-back (s .config .set) small, entries-terms (s .log))

@@ -8,11 +8,11 @@ use lib.ListN.{length, getD, set, take, drop, replicate, length-append, length-m
 use lib.Seq.{take-all, length-take-le, getD-drop, set-at, getD-at, append-snoc}
 use Rattle.algorithm.specs.Table.{Config, Log, Server, Table, absent, nth, replace, server}
 use Rattle.algorithm.specs.Actions.{withServer, withConfig, withLog}
-use Rattle.table.specs.Words.{words}
+use Rattle.words.specs.Words.{words}
 use Rattle.table.specs.Layout.{padded, entries, tableIn}
 use Rattle.table.specs.Slice.{Holds, Held, Became, Within, changed, withRole, withTerm, withEntry, withMark, blank}
-use Rattle.table.proofs.WordLaws.{length-words}
-use Rattle.table.proofs.ListLaws.{replace-nth, nth-replace}
+use Rattle.words.proofs.WordLaws.{length-words}
+use Rattle.table.proofs.ListLaws.{replace-nth, nth-replaced}
 use Rattle.table.proofs.HeldLaws.{its-table, held, again}
 use Rattle.bodies.specs.declared.Figures.{Figures}
 use Rattle.contents.specs.Contents.{countIn, offset, stop}
@@ -56,7 +56,7 @@ module _ (b₀ b d : List ℕ) (s : ℕ) where
         let l = drop 4 (words d) in
         let t = tableIn b₀ in
         let here : server (tableIn b) s ≡ withLog (entries (take k l)) (server t s) =
-        ap (λ (x : Table). server x s) (its-table (g .became .holds)) ∙ nth-replace (t .servers) s _ absent (w .some) (w .known) in
+        ap (λ (x : Table). server x s) (its-table (g .became .holds)) ∙ nth-replaced (t .servers) s _ absent (w .some) (w .known) in
         let many : length (entries (take k l)) ≡ k = length-map (take k l) _ ∙ length-take-le k l (omega (arith, length-rest d)) in
         rw here (omega (arith, many, z .most))
 

@@ -12,12 +12,12 @@ use Rattle.algorithm.specs.Table.{Server, Table, absent, nth, every, count, cei
 use Rattle.algorithm.proofs.Lists.{every-nth}
 use Rattle.algorithm.proofs.Sound.{SoundTable, table-sound}
 use Rattle.table.specs.Slice.{AllRoomy, Shaped}
-use Rattle.table.specs.Check.{between}
-use Rattle.table.proofs.WordLaws.{length-bytes}
+use Rattle.words.specs.Words.{between}
+use Rattle.words.proofs.WordLaws.{length-bytes}
 use Rattle.table.proofs.BoolLaws.{is-true}
 use Rattle.table.proofs.SoundLaws.{marks-sound}
 use Rattle.table.proofs.HeldLaws.{roomy-at}
-use Rattle.table.proofs.Determined.{its-shape}
+use Rattle.table.proofs.StoredLaws.{its-shape}
 use Rattle.contents.specs.Contents.{firstBody, opened, counted, offset, size, stop, start, mayHave, laid, laidOut}
 use Rattle.image.specs.Image.{opening, marksBody, serverBody, bodies, contents, image}
 use Rattle.bodies.specs.Bodies.{body, marksIn, serverIn, soundMarksBody, soundServerBody, soundAt, soundBodies}

@@ -14,7 +14,7 @@ use Rattle.algorithm.proofs.Refused.{first-later}
 use Rattle.table.specs.Layout.{stored}
 use Rattle.table.specs.Slice.{Holds}
 use Rattle.table.proofs.BoolLaws.{three}
-use Rattle.table.proofs.Determined.{held-stored}
+use Rattle.table.proofs.StoredLaws.{held-stored}
 use Rattle.contents.specs.Contents.{opened, countIn, counted, offset, size, stop, start, fixed, mayHave, laid, laidOut}
 use Rattle.bodies.specs.Bodies.{soundBodies}
 use Rattle.image.specs.Reader.{readRefusals, readReply, readTable, readEnd, readBytes, endAfter}

@@ -9,9 +9,8 @@ use Rattle.members.proofs.Tests.{Passes, both}
 use Rattle.algorithm.specs.Table.{every, ceiling, soundServer}
 use Rattle.algorithm.proofs.Lists.{every-cons, cons-every, every-plus}
 use Rattle.algorithm.proofs.Sound.{SoundTable}
-use Rattle.table.specs.Words.{words}
+use Rattle.words.specs.Words.{words, between}
 use Rattle.table.specs.Layout.{padded}
-use Rattle.table.specs.Check.{between}
 use Rattle.table.proofs.LayoutLaws.{length-padded}
 use Rattle.contents.specs.Contents.{countIn}
 use Rattle.bodies.specs.Bodies.{body, serverIn, soundAt, soundBodies}

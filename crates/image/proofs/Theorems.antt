@@ -10,7 +10,7 @@ use Rattle.algorithm.specs.Table.{Table, broken}
 use Rattle.algorithm.proofs.Sound.{sound-table}
 use Rattle.table.specs.Layout.{stored, whole}
 use Rattle.table.proofs.BoolLaws.{is-true}
-use Rattle.table.proofs.Determined.{stored-whole}
+use Rattle.whole.proofs.Determined.{stored-whole}
 use Rattle.image.specs.Image.{image}
 use Rattle.contents.specs.Contents.{countIn}
 use Rattle.image.specs.Reader.{readReply, readTable, readBytes, endAfter, ReadAnswer}

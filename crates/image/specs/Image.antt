@@ -3,7 +3,7 @@ use Prim.Native.Nat.{ℕ, _+_, _/_, _%_}
 use mathlib.Core.List.{List, [], _∷_, _++_, map, flatten}
 use lib.ListN.{length}
 use Rattle.algorithm.specs.Table.{Server, Table, count, trimmed}
-use Rattle.table.specs.Words.{bytes}
+use Rattle.words.specs.Words.{bytes}
 use Rattle.table.specs.Layout.{terms}
 use Rattle.contents.specs.Contents.{firstBody}
 

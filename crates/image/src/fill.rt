@@ -19,13 +19,13 @@ use bodies::figures_of;
 use contents::count_of;
 use contents::offset_of;
 use contents::stop_of;
-use table::fill::fill_blank;
+use fresh::fill_blank;
 use table::rows::push;
 use table::rows::put_config;
 use table::rows::put_mark;
 use table::rows::put_role;
 use table::rows::put_term;
-use table::words::word;
+use words::word;
 
 // The log of a body for server s, which has none yet.
 fn put_log(t: &mut [u8], s: usize, b: &[u8])

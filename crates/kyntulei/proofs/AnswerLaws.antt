@@ -6,7 +6,7 @@ use mathlib.Core.Path.{_≡_, sym, _∙_}
 use lib.ListN.{getD}
 use Rattle.algorithm.specs.Run.{step, runTo}
 use Rattle.table.specs.Layout.{tableIn, whole}
-use Rattle.table.proofs.Determined.{held-stored}
+use Rattle.table.proofs.StoredLaws.{held-stored}
 use Rattle.engine.specs.Engine.{Ready, Stepped, played, Played, AllRefused}
 use Rattle.engine.proofs.ReadyLaws.{whole-ready}
 use Rattle.kyntulei.specs.Promise.{StepAnswer, RunAnswer}

@@ -7,7 +7,8 @@ use Rattle.algorithm.specs.Table.{Table, broken}
 use Rattle.algorithm.specs.Run.{step}
 use Rattle.algorithm.proofs.Refused.{refused-stays}
 use Rattle.table.specs.Layout.{stored, tableIn, whole}
-use Rattle.table.proofs.Determined.{stored-table, stored-whole, whole-stored}
+use Rattle.table.proofs.StoredLaws.{stored-table}
+use Rattle.whole.proofs.Determined.{stored-whole, whole-stored}
 use Rattle.kyntulei.specs.Promise.{stepReply, stepBytes}
 
 -- a step of the bytes of a table that breaks no rule is the step of the table

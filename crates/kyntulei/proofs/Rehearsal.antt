@@ -18,7 +18,8 @@ use Rattle.algorithm.proofs.Kept.{fresh-sound, step-sound}
 use Rattle.algorithm.proofs.Runs.{play-keeps, replies-count}
 use Rattle.algorithm.proofs.Demands.{terms-rise, never-24, primaries-complete}
 use Rattle.table.specs.Layout.{stored, tableIn}
-use Rattle.table.proofs.Determined.{stored-table, stored-whole}
+use Rattle.table.proofs.StoredLaws.{stored-table}
+use Rattle.whole.proofs.Determined.{stored-whole}
 use Rattle.engine.specs.Engine.{played}
 use Rattle.kyntulei.specs.Promise.{freshRefusals, freshReply, freshBytes, runReplies, runBytes}
 

@@ -6,10 +6,10 @@ use algorithm::number;
 use engine::refuse_all;
 use engine::run;
 use engine::step;
+use fresh::fill_fresh;
 use image::read;
-use table::check::is_whole;
-use table::check::set_within;
-use table::fill::fill_fresh;
+use whole::is_whole;
+use whole::set_within;
 
 const TABLE_BYTES: usize = 4760;
 

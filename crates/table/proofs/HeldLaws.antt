@@ -6,10 +6,11 @@ use mathlib.Core.List.{List, [], _∷_, _++_}
 use lib.ListN.{length, getD, set, length-set}
 use Rattle.algorithm.specs.Table.{Server, Table, absent, nth, replace, count, server}
 use Rattle.algorithm.specs.Actions.{withServer}
-use Rattle.table.specs.Words.{words, Put}
+use Rattle.algorithm.proofs.Lists.{length-replace}
+use Rattle.words.specs.Words.{words, Put}
 use Rattle.table.specs.Layout.{row, layout, tableOf, tableIn}
 use Rattle.table.specs.Slice.{Roomy, AllRoomy, Holds, Held, Became, Within, changed}
-use Rattle.table.proofs.ListLaws.{length-replace, replace-nth, nth-replace, replace-replace, get-mid, set-mid}
+use Rattle.table.proofs.ListLaws.{replace-nth, nth-replaced, replace-replace, get-mid, set-mid}
 use Rattle.table.proofs.LayoutLaws.{Framed, server-in, table-back}
 
 -- ---- the table in a slice
@@ -117,6 +118,6 @@ again {b} {b₁} {b₂} {i} f g w p q =
     let s = f (server t i) in
     let after : changed (tableIn b₁) i g ≡ changed t i (λ s. g (f s)) =
     ap (λ (x : Table). changed x i g) (its-table (p .holds))
-    ∙ (λ d. withServer (withServer t i s) i (g (nth-replace (t .servers) i s absent (w .some) (w .known) d)))
+    ∙ (λ d. withServer (withServer t i s) i (g (nth-replaced (t .servers) i s absent (w .some) (w .known) d)))
     ∙ (λ d. record { servers = replace-replace (t .servers) i s (g s) d; marks = t .marks }) in
     record { holds = subst (λ (x : Table). Holds b₂ x) after (q .holds); held = q .held; same = q .same ∙ p .same }

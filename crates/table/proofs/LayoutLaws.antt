@@ -133,7 +133,7 @@ module _ (l : Log) (r : List ℕ) (h : length l ≤ 64) where
       )
       (take-at (replicate k 0) r k (length-replicate k 0))
 
-entries-terms : (l : Log) → entries (terms l) ≡ l
+pub entries-terms : (l : Log) → entries (terms l) ≡ l
 entries-terms [] = refl
 entries-terms (e ∷ l) = ap (λ (m : Log). e ∷ m) (entries-terms l)
 

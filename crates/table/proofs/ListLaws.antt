@@ -1,31 +1,25 @@
 -- Laws of lists: counted from 1, as the table's are, and with a part in the middle. Assumes nothing.
 use Prim.Native.Nat.{ℕ, zero, suc, _+_, _≤_, _<_}
 use native.Mathlib.Nat.{zero-add, suc-add}
-use native.Mathlib.Omega.{arith}
 use mathlib.Core.Path.{_≡_, refl, ap, _∙_}
 use mathlib.Core.List.{List, [], _∷_, _++_}
-use lib.ListN.{length, getD, set, length-set, List·getD-append}
-use lib.Seq.{getD-append-add, getD-set-same, set-append-left, set-getD, set-set}
+use lib.ListN.{length, getD, set, List·getD-append}
+use lib.Seq.{getD-append-add, set-append-left, set-getD, set-set}
 use Rattle.algorithm.specs.Table.{nth, replace}
+use Rattle.algorithm.proofs.Choice.{put-same}
+use Rattle.algorithm.proofs.Lists.{nth-replace}
 
 -- ---- counted from 1
 
 module _ {A : Type 0} where
-  pub length-replace : (l : List A) (i : ℕ) (a : A) → length (replace l i a) ≡ length l
-  unfolding replace
-  length-replace l zero a = refl
-  length-replace l (suc k) a = length-set l k a
-
   -- putting back the element that is there changes nothing
   pub replace-nth : (l : List A) (i : ℕ) (d : A) → replace l i (nth l i d) ≡ l
   unfolding replace nth
   replace-nth l zero d = refl
   replace-nth l (suc k) d = set-getD l k d
 
-  pub nth-replace : (l : List A) (i : ℕ) (a d : A) → 1 ≤ i → i ≤ length l → nth (replace l i a) i d ≡ a
-  unfolding replace nth
-  nth-replace l zero a d h k = absurd (omega arith)
-  nth-replace l (suc j) a d h k = getD-set-same l j a d k
+  pub nth-replaced : (l : List A) (i : ℕ) (a d : A) → 1 ≤ i → i ≤ length l → nth (replace l i a) i d ≡ a
+  nth-replaced l i a d h k = nth-replace l i a d h k i ∙ put-same (λ m. nth l m d) i a
 
   pub replace-replace : (l : List A) (i : ℕ) (a b : A) → replace (replace l i a) i b ≡ replace l i b
   unfolding replace

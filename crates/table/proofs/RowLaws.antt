@@ -10,11 +10,11 @@ use lib.Seq.{length-take-le}
 use Rattle.algorithm.specs.Table.{Entry, Log, Server, Table, nth, replace, count, server, termAt, mark}
 use Rattle.algorithm.specs.Comparisons.{last}
 use Rattle.algorithm.specs.Actions.{withConfig}
+use Rattle.algorithm.proofs.Lists.{length-replace}
 use Rattle.table.specs.declared.rows.Row.{Row}
-use Rattle.table.specs.Words.{words, Put}
+use Rattle.words.specs.Words.{words, Put}
 use Rattle.table.specs.Layout.{padded, terms, row, head, layout, tableIn}
 use Rattle.table.specs.Slice.{Holds, Held, Became, Within, changed, withRole, withTerm, withEntry, withoutLast, withMark, seen}
-use Rattle.table.proofs.ListLaws.{length-replace}
 use Rattle.table.proofs.LayoutLaws.{marks-in}
 use Rattle.table.proofs.HeldLaws.{its-table, held, its-room, Open, then, frame, open-row, close-row, read, opened, closed}
 

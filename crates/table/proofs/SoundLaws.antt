@@ -1,44 +1,25 @@
--- What it says of a table that it breaks no rule: its parts, and that its figures have room in the slice. Assumes nothing.
+-- A table that breaks no rule has room in the slice, and each of its words is a number of four bytes. Assumes nothing.
 use Prim.Native.Nat.{ℕ, zero, suc, _^_, _≤_, _<_}
 use native.Mathlib.Omega.{arith}
-use mathlib.Core.Path.{_≡_, refl, ap, sym, subst}
-use mathlib.Core.Bool.{Bool, true, false, not, _&&_, _||_, Bool·not-not}
+use mathlib.Core.Path.{_≡_, refl, ap, subst}
+use mathlib.Core.Bool.{Bool, true, false, _&&_, _||_}
 use mathlib.Core.Logic.{⊎-elim}
-use mathlib.Core.List.{List, [], _∷_, _++_}
-use lib.Dec.{T, leb, ltb, eqb, leb→le, ltb→lt, eqb→eq, leb·zero}
+use mathlib.Core.List.{List, [], _∷_}
+use lib.Dec.{leb, ltb, leb·zero}
 use lib.ListN.{length, replicate}
 use lib.Pow.{pow-mono}
-use mir.Facts.{and-yes, or-yes}
 use Rattle.members.specs.Members.{within}
-use Rattle.algorithm.specs.Table.{Log, Server, Table, every, count, primary, secondary, ceiling, soundConfig, soundEntry, soundServer, soundMarks, broken}
+use Rattle.members.proofs.Tests.{Passes, both, less}
+use Rattle.algorithm.specs.Table.{Log, Server, Table, every, count, primary, secondary, ceiling, soundConfig, soundEntry, soundServer}
 use Rattle.algorithm.specs.Actions.{withLog}
+use Rattle.algorithm.proofs.Lists.{every-cons}
+use Rattle.algorithm.proofs.Sound.{SoundServer, SoundTable, server-sound}
+use Rattle.words.specs.Words.{between}
+use Rattle.words.proofs.WordLaws.{FourBytes, words-append, words-zeros, words-between}
 use Rattle.table.specs.Layout.{padded, terms, row, head, rows, layout}
 use Rattle.table.specs.Slice.{AllRoomy, Shaped}
-use Rattle.table.specs.Check.{between}
-use Rattle.table.proofs.WordLaws.{FourBytes}
-use Rattle.table.proofs.BoolLaws.{four, all-four}
 
--- ---- the rules, one by one
-
-pub record Sound (t : Table) : Type 0 where
-  pub some : T (leb 1 (count t))
-  pub few : T (leb (count t) 16)
-  pub servers : T (every (soundServer (count t)) (t .servers))
-  pub marks : T (soundMarks (t .marks))
-
-module _ (t : Table) where
-  rules : not (broken t) ≡ (leb 1 (count t) && leb (count t) 16 && every (soundServer (count t)) (t .servers) && soundMarks (t .marks))
-  unfolding broken
-  rules = Bool·not-not _
-
-  pub sound : T (not (broken t)) → Sound t
-  sound h =
-      let (a, b, c, d) =
-      four (leb 1 (count t)) (leb (count t) 16) (every (soundServer (count t)) (t .servers)) (soundMarks (t .marks)) (subst T rules h) in
-      record { some = a; few = b; servers = c; marks = d }
-
-  pub not-broken : Sound t → T (not (broken t))
-  not-broken s = subst T (sym rules) (all-four (leb 1 (count t)) (leb (count t) 16) _ _ (s .some) (s .few) (s .servers) (s .marks))
+-- ---- the rules as tests of numbers
 
 -- a server is sound by its figures, its log's length and its entries
 apart : (x d e : Bool) → (x && d && e) ≡ (x && true && true && d && e)
@@ -65,70 +46,7 @@ unfolding every
 marks-sound [] = refl
 marks-sound (m ∷ ms) = rw (leb·zero m, marks-sound ms)
 
--- ---- a sound table has room in the slice
-
-pub record Bounded (s : Server) : Type 0 where
-  pub role : s .role ≤ 1
-  pub term : s .term ≤ ceiling
-  pub set : s .config .set < 65536
-  pub version : s .config .version ≤ ceiling
-  pub config : s .config .term ≤ ceiling
-  pub short : length (s .log) ≤ 64
-  pub entries : T (every (between 1 ceiling) (terms (s .log)))
-
-module _ (n : ℕ) (few : n ≤ 16) where
-  set-bounded : (m : ℕ) → T (within m n) → m < 65536
-  set-bounded m h =
-      let (a, b) = and-yes (ltb 0 m) (ltb m (2 ^ n)) h in
-      omega (arith, ltb→lt m (2 ^ n) b, pow-mono {i = n} {j = 16} few)
-
-  role-bounded : (s : Server) → T (primary s && leb 1 (s .term) || secondary s) → s .role ≤ 1
-  role-bounded s h =
-      ⊎-elim
-      (λ u. omega (arith, eqb→eq (s .role) 1 (and-yes (primary s) (leb 1 (s .term)) u .0)))
-      (λ u. omega (arith, eqb→eq (s .role) 0 u))
-      (or-yes (primary s && leb 1 (s .term)) (secondary s) h)
-
-  bounded : (s : Server) → T (soundServer n s) → Bounded s
-  bounded s h =
-      let C = s .config in
-      let r : Bool = primary s && leb 1 (s .term) || secondary s in
-      let (rm, c, l, e) = four (r && leb (s .term) ceiling) (soundConfig n C) (leb (length (s .log)) 64) (every soundEntry (s .log)) h in
-      let (r′, m) = and-yes r (leb (s .term) ceiling) rm in
-      let (w, v, u, x) = four (within (C .set) n) (leb 1 (C .version)) (leb (C .version) ceiling) (leb (C .term) ceiling) c in
-      record {
-        role = role-bounded s r′;
-        term = leb→le (s .term) ceiling m;
-        set = set-bounded (C .set) w;
-        version = leb→le (C .version) ceiling u;
-        config = leb→le (C .term) ceiling x;
-        short = leb→le (length (s .log)) 64 l;
-        entries = subst T (terms-sound (s .log)) e;
-      }
-
-  all-roomy : (ss : List Server) → T (every (soundServer n) ss) → AllRoomy ss
-  unfolding every
-  all-roomy [] h = tt
-  all-roomy (s ∷ ss) h =
-      let (a, b) = and-yes (soundServer n s) (every (soundServer n) ss) h in
-      let k = bounded s a in
-      (record { short = k .short; small = k .set }, all-roomy ss b)
-
--- a table that breaks no rule has room in the slice
-pub sound-shaped : (t : Table) → Sound t → Shaped t
-sound-shaped t s =
-    let few = leb→le (count t) 16 (s .few) in
-    record {
-      few = few;
-      roomy = all-roomy (count t) few (t .servers) (s .servers);
-      marked = eqb→eq (length (t .marks)) 64 (and-yes (eqb (length (t .marks)) 64) (every (λ m. leb m ceiling) (t .marks)) (s .marks) .0);
-    }
-
--- ---- and each of its words is a number of four bytes
-
-words-append : (l m : List ℕ) → FourBytes l → FourBytes m → FourBytes (l ++ m)
-words-append [] m h k = k
-words-append (x ∷ l) m h k = (h .0, words-append l m (h .1) k)
+-- ---- the figures of a sound server
 
 words-padded : (k : ℕ) (l : List ℕ) → FourBytes l → FourBytes (padded k l)
 unfolding padded
@@ -136,40 +54,52 @@ words-padded zero l h = tt
 words-padded (suc k) [] h = (omega arith, words-padded k [] tt)
 words-padded (suc k) (x ∷ l) h = (h .0, words-padded k l (h .1))
 
-words-zeros : (k : ℕ) → FourBytes (replicate k 0)
-words-zeros zero = tt
-words-zeros (suc k) = (omega arith, words-zeros k)
+module _ {n : ℕ} (few : n ≤ 16) where
+  small : (m : ℕ) → Passes (within m n) → m < 65536
+  small m h = omega (arith, less {a = m} {b = 2 ^ n} (both {a = ltb 0 m} h .1), pow-mono {i = n} {j = 16} few)
 
-words-between : (low : ℕ) (l : List ℕ) → T (every (between low ceiling) l) → FourBytes l
-unfolding every
-words-between low [] h = tt
-words-between low (x ∷ l) h =
-    let (a, b) = and-yes (between low ceiling x) (every (between low ceiling) l) h in
-    (omega (arith, leb→le x ceiling (and-yes (leb low x) (leb x ceiling) a .1)), words-between low l b)
+  all-roomy : (ss : List Server) → Passes (every (soundServer n) ss) → AllRoomy ss
+  all-roomy [] h = tt
+  all-roomy (s ∷ ss) h =
+      let (here, rest) = every-cons (soundServer n) s ss h in
+      let k = server-sound {n = n} {s = s} here in
+      (record { short = k .short; small = small (s .config .set) (k .config .set) }, all-roomy ss rest)
 
-words-row : (s : Server) → Bounded s → FourBytes (row s)
-words-row s h =
-    let log = words-padded 64 (terms (s .log)) (words-between 1 (terms (s .log)) (h .entries)) in (
-      omega (arith, h .role),
+  words-row : (s : Server) → SoundServer n s → FourBytes (row s)
+  words-row s h = (
+    ⊎-elim (λ (e, _). omega (arith, e)) (λ e. omega (arith, e)) (h .role),
+    (
+      omega (arith, h .term),
       (
-        omega (arith, h .term),
-        (omega (arith, h .set), (omega (arith, h .version), (omega (arith, h .config), (omega (arith, h .short), log)))),
+        omega (arith, small (s .config .set) (h .config .set)),
+        (
+          omega (arith, h .config .version),
+          (omega (arith, h .config .term), (omega (arith, h .short), words-padded 64 (terms (s .log)) log)),
+        ),
       ),
-    )
+    ),
+  )
+    where
+      log : FourBytes (terms (s .log))
+      log = words-between 1 (terms (s .log)) (subst Passes (terms-sound (s .log)) (h .entries))
 
-words-rows : (n : ℕ) → n ≤ 16 → (k : ℕ) (ss : List Server) → T (every (soundServer n) ss) → FourBytes (rows k ss)
-unfolding rows every
-words-rows n few zero ss h = tt
-words-rows n few (suc k) [] h = words-append (replicate 70 0) (rows k []) (words-zeros 70) (words-rows n few k [] h)
-words-rows n few (suc k) (s ∷ ss) h =
-    let (a, b) = and-yes (soundServer n s) (every (soundServer n) ss) h in
-    words-append (row s) (rows k ss) (words-row s (bounded n few s a)) (words-rows n few k ss b)
+  words-rows : (k : ℕ) (ss : List Server) → Passes (every (soundServer n) ss) → FourBytes (rows k ss)
+  unfolding rows
+  words-rows zero ss h = tt
+  words-rows (suc k) [] h = words-append (replicate 70 0) (rows k []) (words-zeros 70) (words-rows k [] h)
+  words-rows (suc k) (s ∷ ss) h =
+      let (here, rest) = every-cons (soundServer n) s ss h in
+      words-append (row s) (rows k ss) (words-row s (server-sound {s = s} here)) (words-rows k ss rest)
 
-pub words-layout : (t : Table) → Sound t → FourBytes (layout t)
+-- ---- a sound table
+
+pub sound-shaped : {t : Table} → SoundTable t → Shaped t
+sound-shaped {t} s = record { few = s .few; roomy = all-roomy (s .few) (t .servers) (s .servers); marked = s .full }
+
+pub words-layout : {t : Table} → SoundTable t → FourBytes (layout t)
 unfolding layout
-words-layout t s =
-    let few = leb→le (count t) 16 (s .few) in
-    let low = subst T (marks-sound (t .marks)) (and-yes (eqb (length (t .marks)) 64) (every (λ m. leb m ceiling) (t .marks)) (s .marks) .1) in
+words-layout {t} s =
+    let marks = words-between 0 (t .marks) (subst Passes (marks-sound (t .marks)) (s .marks)) in
     words-append (head (count t) (t .marks)) (rows 16 (t .servers))
-    (omega arith, (omega arith, (omega arith, (omega arith, (omega arith, (omega arith, words-padded 64 (t .marks) (words-between 0 (t .marks) low)))))))
-    (words-rows (count t) few 16 (t .servers) (s .servers))
+    (omega (arith, s .few), (omega arith, (omega arith, (omega arith, (omega arith, (omega arith, words-padded 64 (t .marks) marks))))))
+    (words-rows (s .few) 16 (t .servers) (s .servers))

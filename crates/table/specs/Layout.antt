@@ -6,7 +6,7 @@ use mathlib.Core.List.{List, [], _∷_, _++_, map}
 use lib.Dec.{eqb}
 use lib.ListN.{length, getD, take, drop, replicate}
 use Rattle.algorithm.specs.Table.{Entry, Log, Server, Table, count, broken}
-use Rattle.table.specs.Words.{words, bytes}
+use Rattle.words.specs.Words.{words, bytes}
 
 -- ---- from a table to bytes
 
@@ -20,6 +20,7 @@ padded (suc k) (x ∷ l) = x ∷ padded k l
 abbrev pub terms : Log → List ℕ
 terms l = map (λ (e : Entry). e .term) l
 
+-- a row, of one server: its figures, the length of its log, and its log
 abbrev pub row : Server → List ℕ
 row s =
     s .role ∷ s .term ∷ s .config .set ∷ s .config .version ∷ s .config .term ∷ length (s .log) ∷ padded 64 (terms (s .log))
@@ -34,6 +35,7 @@ rows zero ss = []
 rows (suc k) [] = replicate 70 0 ++ rows k []
 rows (suc k) (s ∷ ss) = row s ++ rows k ss
 
+-- the words of a table
 unfoldable pub layout : Table → List ℕ
 layout t = head (count t) (t .marks) ++ rows 16 (t .servers)
 
@@ -62,6 +64,7 @@ unfoldable pub serversOf : ℕ → List ℕ → List Server
 serversOf zero d = []
 serversOf (suc k) d = serverOf d ∷ serversOf k (drop 70 d)
 
+-- the table that some words are laid out as
 unfoldable pub tableOf : List ℕ → Table
 tableOf c = record { servers = serversOf (getD c 0 0) (drop 70 c); marks = take 64 (drop 6 c) }
 

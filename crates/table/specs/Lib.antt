@@ -1,5 +1,3 @@
--- A table as a slice of bytes. In the order to read: words, the layout, what contracts say of a slice, what the check asks of the words.
-pub mod Words
+-- A table as a slice of bytes. In the order to read: the layout, what contracts say of a slice.
 pub mod Layout
 pub mod Slice
-pub mod Check

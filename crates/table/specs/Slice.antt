@@ -7,7 +7,7 @@ use Rattle.algorithm.specs.Table.{Server, Table, absent, positions, replace, co
 use Rattle.algorithm.specs.Actions.{withServer, withLog}
 use Rattle.algorithm.specs.Comparisons.{last}
 use Rattle.table.specs.declared.rows.Row.{Row}
-use Rattle.table.specs.Words.{words}
+use Rattle.words.specs.Words.{words}
 use Rattle.table.specs.Layout.{layout, tableIn}
 
 -- a log of n entries and the set m have room in a row
@@ -15,9 +15,11 @@ pub record Room (n m : ℕ) : Type 0 where
   pub short : n ≤ 64
   pub small : m < 65536
 
+-- a server that has room in a row
 abbrev pub Roomy : Server → Type 0
 Roomy s = Room (length (s .log)) (s .config .set)
 
+-- each of the servers has
 abbrev pub AllRoomy : List Server → Type 0
 AllRoomy [] = Unit {0}
 AllRoomy (s ∷ ss) = Roomy s × AllRoomy ss
@@ -53,16 +55,19 @@ pub record Within (b : List ℕ) (s : ℕ) : Type 0 where
 abbrev pub changed : Table → ℕ → (Server → Server) → Table
 changed t i f = withServer t i (f (server t i))
 
--- the ways that a server changes, beside algorithm's own
+-- a server with another role
 abbrev pub withRole : ℕ → Server → Server
 withRole v s = record { role = v; term = s .term; config = s .config; log = s .log }
 
+-- a server with another term
 abbrev pub withTerm : ℕ → Server → Server
 withTerm v s = record { role = s .role; term = v; config = s .config; log = s .log }
 
+-- a server with an entry of term v more
 abbrev pub withEntry : ℕ → Server → Server
 withEntry v s = withLog (s .log ++ (record { term = v } ∷ [])) s
 
+-- a server without its last entry
 abbrev pub withoutLast : Server → Server
 withoutLast s = withLog (take (length (s .log) - 1) (s .log)) s
 

@@ -1,9 +1,5 @@
 // A table in a lent slice of 4,760 bytes, worked on in place: 17 rows of 70 words (specs/Layout.antt).
-// In the order to read: words, rows, check, fill.
-pub mod check;
-pub mod fill;
 pub mod rows;
-pub mod words;
 
 // The length of a table's slice.
 pub const BYTES: usize = 4760;

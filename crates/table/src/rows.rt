@@ -6,11 +6,11 @@ ghost use Rattle.algorithm.specs.Table.{count, server, termAt, mark};
 ghost use Rattle.algorithm.specs.Actions.{withConfig};
 ghost use Rattle.table.specs.Layout.{row, tableIn};
 ghost use Rattle.table.specs.Slice.{Held, Became, Within, changed, withRole, withTerm, withEntry, withoutLast, withMark, seen};
-use crate::words::put;
-use crate::words::word;
 use algorithm::Position;
 use algorithm::Term;
 use algorithm::Version;
+use words::put;
+use words::word;
 
 // A server's figures; `last` is its log's last entry, 0 where the log is empty.
 pub struct Row {

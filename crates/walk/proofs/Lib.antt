@@ -1,2 +1,3 @@
 -- The laws of the places in a list of actions.
 pub mod Laws
+pub mod Passed

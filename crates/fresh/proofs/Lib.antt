@@ -1,0 +1,2 @@
+-- The laws of new tables.
+pub mod FillLaws

@@ -1,0 +1,20 @@
+-- `fresh::fill_blank` meets its contract. Assumes nothing.
+use borrow.Author.Needs.{needs}
+use Rattle.fresh.proofs.FillLaws.{blank-holds}
+use Rattle.fresh.proofs.fill_blank.Statement.{statement}
+use Rattle.fresh.proofs.fill_blank.Tie as tie
+
+zero-requires : tie.Need-zero-requires
+zero-requires c κs = search needs
+
+put-requires : tie.Need-put-requires
+put-requires c κs = search needs
+
+same-length : tie.Need-same-length
+same-length c = search needs
+
+returns : tie.Need-returns
+returns c = search blank-holds
+
+pub fill-blank-spec : {M : Type 1} → statement M
+fill-blank-spec = tie.close (tie.spec zero-requires put-requires same-length returns)

@@ -1,0 +1,51 @@
+// A slice filled with a new table.
+ghost use mathlib.Core.Path.{_≡_};
+ghost use Prim.Native.Nat.{_≤_};
+ghost use lib.ListN.{length, replicate};
+ghost use Rattle.algorithm.specs.Table.{fresh};
+ghost use Rattle.table.specs.Layout.{stored};
+ghost use Rattle.table.specs.Slice.{Holds, blank};
+use algorithm::Term;
+use algorithm::Version;
+use table::rows::put_config;
+use words::put;
+
+fn zero(t: &mut [u8])
+    ensures { λ _. ⌜ now (t .exit) ≡ replicate (length (now (t .entry))) 0 ⌝ }
+{
+    let mut i: usize = 0;
+    while i < t.len() {
+        t[i] = 0;
+        i += 1;
+    }
+}
+
+// A table of n servers of which nothing is known yet, for a reader to fill.
+pub fn fill_blank(t: &mut [u8], n: u8)
+    requires { ⌜ (length (now t) ≡ 4760) × (n ≤ 16) ⌝ }
+    ensures { λ _. ⌜ Holds (now (t .exit)) (blank n) ⌝ }
+{
+    zero(t);
+    put(t, 0, n as u32);
+}
+
+// Gives the blank servers one set, and so a configuration.
+fn give_set(t: &mut [u8], n: u8, set: u16)
+    requires { ⌜ Holds (now t) (blank n) ⌝ }
+    ensures { λ _. ⌜ Holds (now (t .exit)) (fresh n set) ⌝ }
+{
+    let mut k: u8 = 0;
+    while k < n {
+        k += 1;
+        put_config(t, k as usize, set, Version(1), Term(0));
+    }
+}
+
+// A fresh table of n servers with one set.
+pub fn fill_fresh(t: &mut [u8], n: u8, set: u16)
+    requires { ⌜ (length (now t) ≡ 4760) × (n ≤ 16) ⌝ }
+    ensures { λ _. ⌜ now (t .exit) ≡ stored (fresh n set) ⌝ }
+{
+    fill_blank(t, n);
+    give_set(t, n, set);
+}

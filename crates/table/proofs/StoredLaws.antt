@@ -1,0 +1,42 @@
+-- A table that breaks no rule and its bytes. Assumes nothing.
+use Prim.Native.Nat.{ℕ, _<_}
+use native.Mathlib.Omega.{arith}
+use mathlib.Core.Path.{_≡_, ap, sym, _∙_}
+use mathlib.Core.Bool.{false}
+use mathlib.Core.List.{List}
+use lib.ListN.{length, getD}
+use Rattle.algorithm.specs.Table.{Table, broken}
+use Rattle.algorithm.proofs.Sound.{SoundTable, table-sound}
+use Rattle.words.specs.Words.{bytes}
+use Rattle.words.proofs.WordLaws.{length-bytes, bytes-words, words-bytes}
+use Rattle.table.specs.Layout.{layout, stored, tableIn}
+use Rattle.table.specs.Slice.{Shaped, Holds}
+use Rattle.table.proofs.LayoutLaws.{length-layout}
+use Rattle.table.proofs.HeldLaws.{its-table}
+use Rattle.table.proofs.SoundLaws.{sound-shaped, words-layout}
+
+pub stored-length : (t : Table) → length (stored t) ≡ 4760
+unfolding stored
+stored-length t = omega (arith, length-bytes (layout t), length-layout t)
+
+module _ (t : Table) (h : broken t ≡ false) where
+  rules : SoundTable t
+  rules = table-sound (record { no = rw h tt })
+
+  -- a table that breaks no rule has room in a slice
+  pub its-shape : Shaped t
+  its-shape = sound-shaped rules
+
+  -- its bytes hold it
+  pub stored-holds : Holds (stored t) t
+  unfolding stored
+  stored-holds = record { sized = stored-length t; laid = words-bytes (layout t) (words-layout rules); shaped = its-shape }
+
+  -- they are read back as it
+  pub stored-table : tableIn (stored t) ≡ t
+  stored-table = its-table stored-holds
+
+-- a slice that holds a table has that table's bytes
+pub held-stored : (b : List ℕ) (t : Table) → ((i : ℕ) → getD b i 0 < 256) → Holds b t → b ≡ stored t
+unfolding stored
+held-stored b t f h = sym (bytes-words b 1190 (h .sized) f) ∙ ap bytes (h .laid)

@@ -1,0 +1,101 @@
+-- What the check's functions find out. Assumes nothing.
+use Prim.Native.Nat.{ℕ, suc, _+_, _-_, _*_, _^_, _≤_, _<_}
+use native.Mathlib.Omega.{arith}
+use mathlib.Core.Path.{_≡_, ap, sym, _∙_}
+use mathlib.Core.Bool.{Bool, true, false, _&&_, _||_, and-true, and-assoc}
+use mathlib.Core.List.{List, []}
+use lib.Dec.{leb, eqb}
+use lib.ListN.{getD, drop}
+use lib.Pow.{pow-mono}
+use lib.Seq.{getD-drop, drop-drop}
+use borrow.Author.Tests.{le-ltb, lt-ltb, le-leb, lt-leb}
+use Rattle.members.specs.Members.{within}
+use Rattle.algorithm.specs.Table.{every, ceiling, soundServer}
+use Rattle.algorithm.specs.Actions.{withLog}
+use Rattle.words.specs.Words.{part, between}
+use Rattle.table.specs.Layout.{serverOf}
+use Rattle.whole.specs.Check.{soundRow, soundRows, soundWords}
+
+-- ---- a server's figures
+
+-- no set of a table has a bit above 16
+pub set-large : (n m : ℕ) → n ≤ 16 → 65535 < m → false ≡ within m n
+set-large n m h l = rw (lt-ltb 0 m (omega arith)) (sym (le-ltb m (2 ^ n) (omega (arith, pow-mono {i = n} {j = 16} h))))
+
+-- ---- a row at a place
+
+module _ (c : List ℕ) (at n : ℕ) where
+  -- a server with an empty log is sound by its figures alone
+  pub figures-at : (role term set version config : ℕ) (w : Bool) → role ≡ getD c (at + 0) 0 → term ≡ getD c (at + 1) 0 → set ≡ getD c (at + 2) 0
+      → version ≡ getD c (at + 3) 0 → config ≡ getD c (at + 4) 0 → w ≡ within set n
+      → ((eqb role 1 && leb 1 term || eqb role 0) && leb term ceiling && (w && leb 1 version && leb version ceiling && leb config ceiling))
+      ≡ soundServer n (withLog [] (serverOf (drop at c)))
+  unfolding serverOf every
+  figures-at role term set version config w e₀ e₁ e₂ e₃ e₄ e =
+      rw (
+        getD-drop at c 0 0,
+        getD-drop at c 1 0,
+        getD-drop at c 2 0,
+        getD-drop at c 3 0,
+        getD-drop at c 4 0,
+        ← e₀,
+        ← e₁,
+        ← e₂,
+        ← e₃,
+        ← e₄,
+        e,
+      )
+      (sym (and-true _ ∙ and-true _))
+
+  pub row-long : (k : ℕ) → k ≡ getD c (at + 5) 0 → 64 < k → false ≡ soundRow n (drop at c)
+  unfolding soundRow
+  row-long k e h = rw (getD-drop at c 5 0, ← e, lt-leb k 64 h)
+
+  pub row-at : (k : ℕ) (f e z : Bool) → k ≡ getD c (at + 5) 0 → k ≤ 64 → f ≡ soundServer n (withLog [] (serverOf (drop at c)))
+      → e ≡ every (between 1 ceiling) (part c (at + 6) k) → z ≡ every (between 0 0) (part c (at + (6 + k)) (64 - k))
+      → (f && e && z) ≡ soundRow n (drop at c)
+  unfolding soundRow
+  row-at k f e z ek h ef ee ez =
+      rw (getD-drop at c 5 0, ← ek, le-leb k 64 h, drop-drop 6 at c, drop-drop (6 + k) at c, ← ef, ← ee, ← ez)
+
+-- ---- a loop over rows
+
+module _ (c : List ℕ) (n : ℕ) where
+  -- what the rows after row k tell
+  abbrev rest : ℕ → Bool
+  rest k = soundRows (n - k) n (drop (70 * (k + 1)) c)
+
+  -- the first k rows are tested: ok and the rest tell of all
+  pub record RowsTested (k : ℕ) (ok : Bool) : Type 0 where
+    pub tells : (ok && rest k) ≡ soundRows n n (drop 70 c)
+
+  pub rows-none : RowsTested 0 true
+  rows-none =
+      let all : n - 0 ≡ n = omega arith in
+      record { tells = ap (λ (j : ℕ). soundRows j n (drop 70 c)) all }
+
+  pub rows-more : (k : ℕ) (ok r : Bool) → k < n → RowsTested k ok → r ≡ soundRow n (drop (70 * (k + 1)) c) → RowsTested (k + 1) (ok && r)
+  unfolding soundRows
+  rows-more k ok r h e f = record { tells = and-assoc ok r (rest (k + 1)) ∙ ap (λ (x : Bool). ok && x) (sym next) ∙ e .tells }
+    where
+      left : n - k ≡ suc (n - (k + 1))
+      left = omega arith
+
+      on : 70 * (k + 1) + 70 ≡ 70 * (k + 1 + 1)
+      on = omega arith
+
+      next : rest k ≡ (r && rest (k + 1))
+      next = rw (left, drop-drop 70 (70 * (k + 1)) c, on, ← f)
+
+  pub rows-all : (k : ℕ) (ok : Bool) → k ≤ n → n ≤ k → RowsTested k ok → ok ≡ soundRows n n (drop 70 c)
+  unfolding soundRows
+  rows-all k ok l m e =
+      let none : n - k ≡ 0 = omega arith in
+      sym (and-true ok) ∙ ap (λ (j : ℕ). ok && soundRows j n (drop (70 * (k + 1)) c)) (sym none) ∙ e .tells
+
+-- ---- the four parts of a table's words
+
+pub words-at : (c : List ℕ) (n : ℕ) (a b r z : Bool) → a ≡ every (between 0 0) (part c 1 5) → b ≡ every (between 0 ceiling) (part c 6 64)
+    → r ≡ soundRows n n (drop 70 c) → z ≡ every (between 0 0) (part c (70 * n + 70) (1120 - 70 * n)) → (a && b && r && z) ≡ soundWords n c
+unfolding soundWords
+words-at c n a b r z ea eb er ez = rw (ea, eb, er, ez)

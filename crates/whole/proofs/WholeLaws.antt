@@ -1,0 +1,197 @@
+-- The check asks of the words what makes a slice whole: that they are the layout of the table in them, and that this table breaks no rule.
+-- Assumes nothing.
+use Prim.Native.Nat.{ℕ, zero, suc, _+_, _-_, _*_, _≤_}
+use native.Mathlib.Nat.{add-comm}
+use native.Mathlib.Omega.{arith}
+use mathlib.Core.Path.{_≡_, refl, ap, ap₂, sym, subst, _∙_}
+use mathlib.Core.Bool.{_&&_}
+use mathlib.Core.List.{List, [], _∷_, _++_}
+use lib.Dec.{leb}
+use lib.ListN.{length, getD, take, drop, replicate, length-drop, length-map, take-append-drop}
+use lib.Seq.{drop-drop, drop-at, length-take-le, take-add, take-suc, take-all}
+use Rattle.members.proofs.Tests.{Passes, both, together, at-most, is-at-most}
+use Rattle.algorithm.specs.Table.{Server, Table, every, count, ceiling, soundServer}
+use Rattle.algorithm.proofs.Lists.{every-cons, every-replicate}
+use Rattle.algorithm.proofs.Sound.{SoundTable}
+use Rattle.words.specs.Words.{part, between}
+use Rattle.table.specs.Layout.{padded, terms, entries, row, head, rows, layout, serverOf, serversOf, tableOf}
+use Rattle.table.proofs.LayoutLaws.{length-row, length-head, length-layout, rows-none, padded-is, marks-back, log-terms, log-beyond, server-back}
+use Rattle.table.proofs.SoundLaws.{server-parts, terms-sound, marks-sound}
+use Rattle.whole.specs.Check.{soundRow, soundRows, soundWords}
+
+-- ---- runs of 0
+
+zeros-pass : (k : ℕ) → Passes (every (between 0 0) (replicate k 0))
+zeros-pass k = every-replicate (between 0 0) k 0 (record { yes = tt })
+
+all-zero : (l : List ℕ) → Passes (every (between 0 0) l) → l ≡ replicate (length l) 0
+all-zero [] h = refl
+all-zero (x ∷ l) h =
+    let (here, rest) = every-cons (between 0 0) x l h in
+    let none : x ≡ 0 = omega (arith, at-most {a = x} {b = 0} (both {a = leb 0 x} here .1)) in
+    ap₂ (λ (y : ℕ) (m : List ℕ). y ∷ m) none (all-zero l rest)
+
+-- ---- a server's row
+
+row-passes : (n : ℕ) (s : Server) (r : List ℕ) → Passes (soundServer n s) → Passes (soundRow n (row s ++ r))
+unfolding soundRow
+row-passes n s r h =
+    let k = length (s .log) in
+    let d = row s ++ r in
+    let (figures, entries) = both (subst Passes (server-parts n s) h) in
+    let (f, l) = both figures in
+    let short = at-most l in
+    together
+    (together
+    (together l (rw (server-back s r short) f))
+    (rw (log-terms (s .log) r short) (subst Passes (terms-sound (s .log)) entries)))
+    (rw (← drop-drop k 6 d, log-beyond (s .log) r short) (zeros-pass (64 - k)))
+
+terms-entries : (l : List ℕ) → terms (entries l) ≡ l
+terms-entries [] = refl
+terms-entries (x ∷ l) = ap (λ (m : List ℕ). x ∷ m) (terms-entries l)
+
+six : (d : List ℕ) → 70 ≤ length d
+    → take 70 d ≡ getD d 0 0 ∷ getD d 1 0 ∷ getD d 2 0 ∷ getD d 3 0 ∷ getD d 4 0 ∷ getD d 5 0 ∷ take 64 (drop 6 d)
+six [] h = absurd (omega arith)
+six (a ∷ []) h = absurd (omega arith)
+six (a ∷ b ∷ []) h = absurd (omega arith)
+six (a ∷ b ∷ c ∷ []) h = absurd (omega arith)
+six (a ∷ b ∷ c ∷ d ∷ []) h = absurd (omega arith)
+six (a ∷ b ∷ c ∷ d ∷ e ∷ []) h = absurd (omega arith)
+six (a ∷ b ∷ c ∷ d ∷ e ∷ f ∷ l) h = refl
+
+-- the row at the front of some words is that of the server in it
+record RowOf (n : ℕ) (d : List ℕ) : Type 0 where
+  laid : row (serverOf d) ≡ take 70 d
+  sound : Passes (soundServer n (serverOf d))
+
+-- a log's room is its entries and 0 beyond them
+room-back : (k : ℕ) (e : List ℕ) → k ≤ 64 → 64 ≤ length e → Passes (every (between 0 0) (take (64 - k) (drop k e))) → padded 64 (take k e) ≡ take 64 e
+room-back k e h l z =
+    let taken : length (take k e) ≡ k = length-take-le k e (omega arith) in
+    let left : length (take (64 - k) (drop k e)) ≡ 64 - k = length-take-le (64 - k) (drop k e) (omega (arith, length-drop k e)) in
+    let all : k + (64 - k) ≡ 64 = omega arith in
+    padded-is 64 (take k e) (64 - k) (omega (arith, taken))
+    ∙ ap (λ (m : List ℕ). take k e ++ m) (ap (λ (j : ℕ). replicate j 0) (sym left) ∙ sym (all-zero _ z))
+    ∙ sym (take-add k (64 - k) e)
+    ∙ ap (λ (j : ℕ). take j e) all
+
+row-back : (n : ℕ) (d : List ℕ) → 70 ≤ length d → Passes (soundRow n d) → RowOf n d
+unfolding soundRow serverOf
+row-back n d long h =
+    let k = getD d 5 0 in
+    let e = drop 6 d in
+    let log = entries (take k e) in
+    let (figures, beyond) = both h in
+    let (figured, tested) = both figures in
+    let (l, f) = both figured in
+    let short : k ≤ 64 = at-most l in
+    let many : length log ≡ k = length-map (take k e) _ ∙ length-take-le k e (omega (arith, length-drop 6 d)) in
+    let room : padded 64 (terms log) ≡ take 64 e =
+    ap (padded 64) (terms-entries (take k e)) ∙ room-back k e short (omega (arith, length-drop 6 d)) (rw (drop-drop k 6 d) beyond) in
+    record {
+      laid =
+          ap₂ (λ (x : ℕ) (m : List ℕ). getD d 0 0 ∷ getD d 1 0 ∷ getD d 2 0 ∷ getD d 3 0 ∷ getD d 4 0 ∷ x ∷ m) many room ∙ sym (six d long);
+      sound =
+          subst Passes (sym (server-parts n (serverOf d)))
+          (together (together f (is-at-most {a = length log} {b = 64} (omega (arith, many)))) (subst Passes (sym (terms-sound log)) (rw (terms-entries (take k e)) tested)));
+    }
+
+-- ---- the rows of the servers, and those beyond
+
+rows-pass : (n k : ℕ) (ss : List Server) → length ss ≤ k → Passes (every (soundServer n) ss) → Passes (soundRows (length ss) n (rows k ss))
+unfolding soundRows rows
+rows-pass n k [] h t = record { yes = tt }
+rows-pass n zero (s ∷ ss) h t = absurd (omega arith)
+rows-pass n (suc k) (s ∷ ss) h t =
+    let (here, rest) = every-cons (soundServer n) s ss t in
+    together {a = soundRow n (row s ++ rows k ss)} (row-passes n s (rows k ss) here)
+    (rw (drop-at (row s) (rows k ss) 70 (length-row s)) (rows-pass n k ss (omega arith) rest))
+
+next-rows : (m : ℕ) (l : List ℕ) → drop (70 * m) (drop 70 l) ≡ drop (70 * suc m) l
+next-rows m l =
+    let more : 70 + 70 * m ≡ 70 * suc m = omega arith in
+    drop-drop (70 * m) 70 l ∙ ap (λ (j : ℕ). drop j l) more
+
+beyond-pass : (k : ℕ) (ss : List Server) → length ss ≤ k → Passes (every (between 0 0) (drop (70 * length ss) (rows k ss)))
+unfolding rows
+beyond-pass k [] h = rw (rows-none k) (zeros-pass (70 * k))
+beyond-pass zero (s ∷ ss) h = absurd (omega arith)
+beyond-pass (suc k) (s ∷ ss) h =
+    rw (← next-rows (length ss) (row s ++ rows k ss), drop-at (row s) (rows k ss) 70 (length-row s)) (beyond-pass k ss (omega arith))
+
+rows-back : (n k m : ℕ) (d : List ℕ) → length d ≡ 70 * k → m ≤ k → Passes (soundRows m n d) → Passes (every (between 0 0) (drop (70 * m) d))
+    → (rows k (serversOf m d) ≡ d) × Passes (every (soundServer n) (serversOf m d))
+unfolding soundRows rows serversOf every
+rows-back n k zero d e h t z = (rows-none k ∙ ap (λ (j : ℕ). replicate j 0) (sym e) ∙ sym (all-zero d z), record { yes = tt })
+rows-back n zero (suc m) d e h t z = absurd (omega arith)
+rows-back n (suc k) (suc m) d e h t z =
+    let (here, rest) = both {a = soundRow n d} t in
+    let first = row-back n d (omega arith) here in
+    let (laid, sound) = rows-back n k m (drop 70 d) (omega (arith, length-drop 70 d)) (omega arith) rest (rw (next-rows m d) z) in
+    (ap₂ _++_ (first .laid) laid ∙ take-append-drop 70 d, together {a = soundServer n (serverOf d)} (first .sound) sound)
+
+-- ---- the table
+
+-- what stands behind the rows of n servers
+past-rows : (n : ℕ) (c : List ℕ) → length c ≡ 1190 → part c (70 * n + 70) (1120 - 70 * n) ≡ drop (70 * n) (drop 70 c)
+past-rows n c e =
+    rw (add-comm (70 * n) 70, ← drop-drop (70 * n) 70 c)
+    (take-all (1120 - 70 * n) (drop (70 * n) (drop 70 c)) (simp length-drop (omega arith)))
+
+pub words-pass : {t : Table} → SoundTable t → Passes (soundWords (count t) (layout t))
+unfolding soundWords layout every
+words-pass {t} s =
+    let n = count t in
+    let top = head n (t .marks) in
+    let all = rows 16 (t .servers) in
+    let under : drop 70 (layout t) ≡ all = drop-at top all 70 (length-head n (t .marks)) in
+    let spare : Passes (every (between 0 0) (part (layout t) 1 5)) = record { yes = tt } in
+    let marks : Passes (every (between 0 ceiling) (part (layout t) 6 64)) =
+    rw (marks-back t (s .full)) (subst Passes (marks-sound (t .marks)) (s .marks)) in
+    let servers : Passes (soundRows n n (drop 70 (layout t))) = rw under (rows-pass n 16 (t .servers) (s .few) (s .servers)) in
+    let beyond : Passes (every (between 0 0) (part (layout t) (70 * n + 70) (1120 - 70 * n))) =
+    rw (past-rows n (layout t) (length-layout t), under) (beyond-pass 16 (t .servers) (s .few)) in
+    together (together (together spare marks) servers) beyond
+
+-- the first row of words whose five figures after the first are 0
+top-back : (c : List ℕ) → 70 ≤ length c → Passes (every (between 0 0) (part c 1 5)) → take 70 c ≡ head (getD c 0 0) (take 64 (drop 6 c))
+unfolding every
+top-back c h z =
+    let none : Passes (every (between 0 0) (take 0 (drop 64 (drop 6 c)))) = record { yes = tt } in
+    let five : take 5 (drop 1 c) ≡ replicate 5 0 =
+    all-zero (part c 1 5) z ∙ ap (λ (j : ℕ). replicate j 0) (length-take-le 5 (drop 1 c) (omega (arith, length-drop 1 c))) in
+    let room : take 64 (drop 6 c) ≡ padded 64 (take 64 (drop 6 c)) = sym (room-back 64 (drop 6 c) (omega arith) (omega (arith, length-drop 6 c)) none) in
+    take-add 1 69 c
+    ∙ ap₂ _++_ (take-suc c 0 0 (omega arith)) (take-add 5 64 (drop 1 c) ∙ ap₂ _++_ five (ap (take 64) (drop-drop 5 1 c) ∙ room))
+
+length-servers : (n : ℕ) (d : List ℕ) → length (serversOf n d) ≡ n
+unfolding serversOf
+length-servers zero d = refl
+length-servers (suc n) d = ap suc (length-servers n (drop 70 d))
+
+pub words-back : (n : ℕ) (c : List ℕ) → length c ≡ 1190 → n ≡ getD c 0 0 → 1 ≤ n → n ≤ 16 → Passes (soundWords n c)
+    → (layout (tableOf c) ≡ c) × SoundTable (tableOf c)
+unfolding soundWords layout tableOf
+words-back n c e first some few h =
+    let d = drop 70 c in
+    let ms = take 64 (drop 6 c) in
+    let (rest, beyond) = both {a = every (between 0 0) (part c 1 5) && every (between 0 ceiling) ms && soundRows n n d} h in
+    let (top, tested) = both {a = every (between 0 0) (part c 1 5) && every (between 0 ceiling) ms} rest in
+    let (five, low) = both {a = every (between 0 0) (part c 1 5)} top in
+    let (laid, sound) = rows-back n 16 n d (simp length-drop (omega arith)) few tested (rw (← past-rows n c e) beyond) in
+    let counted : length (serversOf (getD c 0 0) d) ≡ getD c 0 0 = length-servers (getD c 0 0) d in
+    let many : length ms ≡ 64 = length-take-le 64 (drop 6 c) (omega (arith, length-drop 6 c)) in (
+      ap (λ (k : ℕ). head k ms ++ rows 16 (serversOf (getD c 0 0) d)) counted
+          ∙ ap₂ _++_ (sym (top-back c (omega arith) five)) (ap (λ (k : ℕ). rows 16 (serversOf k d)) (sym first) ∙ laid)
+          ∙ take-append-drop 70 c,
+      record {
+        some = omega (arith, counted);
+        few = omega (arith, counted);
+        servers =
+            subst (λ (k : ℕ). Passes (every (soundServer (length (serversOf k d))) (serversOf k d))) first (rw (length-servers n d) sound);
+        full = many;
+        marks = subst Passes (sym (marks-sound ms)) low;
+      },
+    )

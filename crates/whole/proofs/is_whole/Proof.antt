@@ -1,0 +1,45 @@
+-- `whole::is_whole` meets its contract. Assumes nothing.
+use borrow.Author.Needs.{needs}
+use Rattle.whole.proofs.AnswerLaws.{other-length, no-server, too-many, answer}
+use Rattle.whole.proofs.is_whole.Statement.{statement}
+use Rattle.whole.proofs.is_whole.Tie as tie
+
+returns : tie.Need-returns
+returns c = search other-length
+
+word-requires : tie.Need-word-requires
+word-requires c κs = search needs
+
+returns-2 : tie.Need-returns-2
+returns-2 c = search no-server
+
+returns-3 : tie.Need-returns-3
+returns-3 c = search too-many
+
+cast-words-sound : tie.Need-cast-words-sound
+cast-words-sound c = search needs
+
+words-sound-requires : tie.Need-words-sound-requires
+words-sound-requires c κs = search needs
+
+returns-4 : tie.Need-returns-4
+returns-4 c =
+    let read = c .before .before .before in
+    answer _ _ (read .word .ensures) _
+    (λ i. read .before .before .shared-slice-known .given i .fits)
+    (read .before .if1 .left)
+    (c .before .before .if2 .left)
+    (c .before .if3 .left)
+    (c .words-sound .ensures)
+
+pub is-whole-spec : {M : Type 1} → statement M
+is-whole-spec =
+    tie.close
+    (tie.spec
+    returns
+    word-requires
+    returns-2
+    returns-3
+    cast-words-sound
+    words-sound-requires
+    returns-4)

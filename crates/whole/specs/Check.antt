@@ -1,0 +1,32 @@
+-- The words of a whole table, as the check goes through them. Assumes nothing.
+use Prim.Native.Nat.{ℕ, zero, suc, _+_, _-_, _*_}
+use mathlib.Core.Bool.{Bool, true, _&&_}
+use mathlib.Core.List.{List, []}
+use lib.Dec.{leb}
+use lib.ListN.{getD, drop}
+use Rattle.algorithm.specs.Table.{every, soundServer, ceiling}
+use Rattle.algorithm.specs.Actions.{withLog}
+use Rattle.words.specs.Words.{part, between}
+use Rattle.table.specs.Layout.{serverOf}
+
+-- d begins with the row of a server of a table of n: its five figures, its log's length, and its entries, 0 beyond the length
+unfoldable pub soundRow : ℕ → List ℕ → Bool
+soundRow n d =
+    let k = getD d 5 0 in
+    leb k 64
+    && soundServer n (withLog [] (serverOf d))
+    && every (between 1 ceiling) (part d 6 k)
+    && every (between 0 0) (part d (6 + k) (64 - k))
+
+-- so do the k rows that d begins with
+unfoldable pub soundRows : ℕ → ℕ → List ℕ → Bool
+soundRows zero n d = true
+soundRows (suc k) n d = soundRow n d && soundRows k n (drop 70 d)
+
+-- the words of a table of n servers, from 1 to 16
+unfoldable pub soundWords : ℕ → List ℕ → Bool
+soundWords n c =
+    every (between 0 0) (part c 1 5)
+    && every (between 0 ceiling) (part c 6 64)
+    && soundRows n n (drop 70 c)
+    && every (between 0 0) (part c (70 * n + 70) (1120 - 70 * n))

@@ -1,0 +1,2 @@
+-- What the check asks of a slice's words.
+pub mod Check

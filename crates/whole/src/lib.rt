@@ -1,0 +1,119 @@
+// Whether a slice is a whole table. The answers of the tests are joined without branches, as those of a loop over words are.
+ghost use mathlib.Core.Path.{_≡_};
+ghost use mathlib.Core.List.{[]};
+ghost use Prim.Native.Nat.{_*_, _≤_};
+ghost use lib.ListN.{length, drop};
+ghost use Rattle.members.specs.Members.{within};
+ghost use Rattle.algorithm.specs.Table.{soundServer};
+ghost use Rattle.algorithm.specs.Actions.{withLog};
+ghost use Rattle.words.specs.Words.{words};
+ghost use Rattle.table.specs.Layout.{serverOf, whole};
+ghost use Rattle.whole.specs.Check.{soundRow, soundRows, soundWords};
+use algorithm::CEILING;
+use members::is_within;
+use table::BYTES;
+use table::rows::CONFIG;
+use table::rows::LENGTH;
+use table::rows::LOG;
+use table::rows::ROLE;
+use table::rows::ROW;
+use table::rows::SET;
+use table::rows::TERM;
+use table::rows::VERSION;
+use words::all_between;
+use words::word;
+
+// The words of the servers' 16 rows.
+const SERVERS: usize = 1120;
+
+// A set that has a bit above 16 has one above n.
+pub fn set_within(set: u32, n: u8) -> bool
+    requires { ⌜ n ≤ 16 ⌝ }
+    ensures { λ r. ⌜ r ≡ within set n ⌝ }
+{
+    if 65535 < set {
+        return false;
+    }
+    is_within(set as u16, n)
+}
+
+// The figures of server s of n are sound.
+fn figures_sound(t: &[u8], n: u8, s: usize) -> bool
+    requires { ⌜ (length (now t) ≡ 4760) × (s ≤ 16) ⌝ }
+    requires { ⌜ n ≤ 16 ⌝ }
+    ensures { λ r. ⌜ r ≡ soundServer n (withLog [] (serverOf (drop (70 * s) (words (now (t .entry)))))) ⌝ }
+{
+    let at = ROW * s;
+    let role = word(t, at + ROLE);
+    let term = word(t, at + TERM);
+    let set = word(t, at + SET);
+    let version = word(t, at + VERSION);
+    let config = word(t, at + CONFIG);
+    let role_sound = (role == 1) & (1 <= term) | (role == 0);
+    let config_sound = set_within(set, n)
+        & (1 <= version)
+        & (version <= CEILING)
+        & (config <= CEILING);
+    role_sound & (term <= CEILING) & config_sound
+}
+
+fn row_sound(t: &[u8], n: u8, s: usize) -> bool
+    requires { ⌜ (length (now t) ≡ 4760) × (s ≤ 16) ⌝ }
+    requires { ⌜ n ≤ 16 ⌝ }
+    ensures { λ r. ⌜ r ≡ soundRow n (drop (70 * s) (words (now (t .entry)))) ⌝ }
+{
+    let at = ROW * s;
+    let length = word(t, at + LENGTH);
+    if 64 < length {
+        return false;
+    }
+    let k = length as usize;
+    let figures = figures_sound(t, n, s);
+    let entries = all_between(t, at + LOG, k, 1, CEILING);
+    let beyond = all_between(t, at + (LOG + k), 64 - k, 0, 0);
+    figures & entries & beyond
+}
+
+fn rows_sound(t: &[u8], n: u8) -> bool
+    requires { ⌜ length (now t) ≡ 4760 ⌝ }
+    requires { ⌜ n ≤ 16 ⌝ }
+    ensures { λ r. ⌜ r ≡ soundRows n n (drop 70 (words (now (t .entry)))) ⌝ }
+{
+    let mut ok = true;
+    let mut k: u8 = 0;
+    while k < n {
+        k += 1;
+        ok = ok & row_sound(t, n, k as usize);
+    }
+    ok
+}
+
+fn words_sound(t: &[u8], n: u8) -> bool
+    requires { ⌜ length (now t) ≡ 4760 ⌝ }
+    requires { ⌜ n ≤ 16 ⌝ }
+    ensures { λ r. ⌜ r ≡ soundWords n (words (now (t .entry))) ⌝ }
+{
+    let used = ROW * n as usize;
+    let spare = all_between(t, 1, 5, 0, 0);
+    let marks = all_between(t, LOG, 64, 0, CEILING);
+    let rows = rows_sound(t, n);
+    let beyond = all_between(t, used + ROW, SERVERS - used, 0, 0);
+    spare & marks & rows & beyond
+}
+
+// The slice is a table that breaks no rule.
+pub fn is_whole(t: &[u8]) -> bool
+    ensures { λ r. ⌜ r ≡ whole (now (t .entry)) ⌝ }
+{
+    if t.len() != BYTES {
+        return false;
+    }
+    let n = word(t, 0);
+    if n == 0 {
+        return false;
+    }
+    if 16 < n {
+        return false;
+    }
+    words_sound(t, n as u8)
+}

@@ -1,0 +1,3 @@
+-- The laws of words.
+pub mod WordLaws
+pub mod PartLaws

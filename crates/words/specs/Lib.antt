@@ -1,0 +1,2 @@
+-- Words of a slice of bytes.
+pub mod Words

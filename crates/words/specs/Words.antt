@@ -1,0 +1,37 @@
+-- Numbers of four bytes, low byte first. Assumes nothing.
+use Prim.Native.Nat.{ℕ, _+_, _*_, _/_, _%_}
+use mathlib.Core.Bool.{Bool, _&&_}
+use mathlib.Core.Path.{_≡_}
+use mathlib.Core.List.{List, [], _∷_}
+use lib.Dec.{leb}
+use lib.ListN.{length, take, drop, set}
+
+-- the number of four bytes
+abbrev pub wordOf : ℕ → ℕ → ℕ → ℕ → ℕ
+wordOf a b c d = a + 256 * b + 65536 * c + 16777216 * d
+
+-- the numbers of some bytes, four by four; up to three left over make none
+unfoldable pub words : List ℕ → List ℕ
+words [] = []
+words (a ∷ []) = []
+words (a ∷ b ∷ []) = []
+words (a ∷ b ∷ c ∷ []) = []
+words (a ∷ b ∷ c ∷ d ∷ r) = wordOf a b c d ∷ words r
+
+-- the bytes of some numbers
+unfoldable pub bytes : List ℕ → List ℕ
+bytes [] = []
+bytes (w ∷ r) = w % 256 ∷ w / 256 % 256 ∷ w / 65536 % 256 ∷ w / 16777216 % 256 ∷ bytes r
+
+-- the slice b has become b': v is put into its word k
+pub record Put (b b' : List ℕ) (k v : ℕ) : Type 0 where
+  pub sized : length b' ≡ length b
+  pub word : words b' ≡ set (words b) k v
+
+-- the n words from word k
+abbrev pub part : List ℕ → ℕ → ℕ → List ℕ
+part c k n = take n (drop k c)
+
+-- v is from low to high
+abbrev pub between : ℕ → ℕ → ℕ → Bool
+between low high v = leb low v && leb v high

@@ -1,0 +1,49 @@
+// Words of a slice: numbers of four bytes, the low byte first.
+ghost use mathlib.Core.Path.{_≡_};
+ghost use Prim.Native.Nat.{_+_, _*_, _≤_};
+ghost use lib.ListN.{length, getD};
+ghost use Rattle.algorithm.specs.Table.{every};
+ghost use Rattle.words.specs.Words.{wordOf, words, Put, part, between};
+
+fn joined(a: u8, b: u8, c: u8, d: u8) -> u32
+    ensures { λ r. ⌜ r ≡ wordOf a b c d ⌝ }
+{
+    a as u32 + 256 * (b as u32) + 65536 * (c as u32) + 16777216 * (d as u32)
+}
+
+// Word k of the slice.
+pub fn word(t: &[u8], k: usize) -> u32
+    requires { ⌜ 4 * k + 4 ≤ length (now t) ⌝ }
+    ensures { λ r. ⌜ r ≡ getD (words (now (t .entry))) k 0 ⌝ }
+{
+    let at = 4 * k;
+    joined(t[at], t[at + 1], t[at + 2], t[at + 3])
+}
+
+// Puts v into word k of the slice.
+pub fn put(t: &mut [u8], k: usize, v: u32)
+    requires { ⌜ 4 * k + 4 ≤ length (now t) ⌝ }
+    ensures { λ _. ⌜ Put (now (t .entry)) (now (t .exit)) k v ⌝ }
+{
+    let at = 4 * k;
+    t[at] = (v % 256) as u8;
+    t[at + 1] = (v / 256 % 256) as u8;
+    t[at + 2] = (v / 65536 % 256) as u8;
+    t[at + 3] = (v / 16777216 % 256) as u8;
+}
+
+// Each of the n words from word k is from low to high. The answers of the tests are joined without branches, so that the loop can
+// test several words at once.
+pub fn all_between(t: &[u8], k: usize, n: usize, low: u32, high: u32) -> bool
+    requires { ⌜ 4 * (k + n) ≤ length (now t) ⌝ }
+    ensures { λ r. ⌜ r ≡ every (between low high) (part (words (now (t .entry))) k n) ⌝ }
+{
+    let mut ok = true;
+    let mut i: usize = 0;
+    while i < n {
+        let v = word(t, k + i);
+        ok = ok & ((low <= v) & (v <= high));
+        i += 1;
+    }
+    ok
+}
