@@ -14,6 +14,9 @@ pub struct Position(pub u8);
 // The largest term and the largest version.
 pub const CEILING: u32 = 1_000_000_000;
 
+// How many positions a log, and the marks, have room for.
+pub const POSITIONS: u8 = 64;
+
 fn pair(low: u8, high: u8) -> u16
     ensures { λ r. ⌜ r ≡ low + 256 * high ⌝ }
 {

@@ -7,8 +7,8 @@ use crate::pieces::piece_end;
 use algorithm::Reply;
 use algorithm::number;
 use doers::act;
+use form::judge_form;
 use judges::action::judge_action;
-use judges::form::judge_form;
 use table::rows::count_of;
 
 pub mod pieces;

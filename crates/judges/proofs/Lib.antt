@@ -1,3 +1,4 @@
 -- The laws of the judges.
-pub mod RefusalLaws
-pub mod FormLaws
+pub mod ActionLaws
+pub mod LogLaws
+pub mod SetLaws

@@ -7,7 +7,6 @@ ghost use Rattle.algorithm.specs.Table.{count};
 ghost use Rattle.algorithm.specs.Refusals.{formRefusals, usesSecond, kinds, actionOf, unknown, ownRefusals, first};
 ghost use Rattle.table.specs.Layout.{tableIn};
 ghost use Rattle.table.specs.Slice.{Held, Within};
-use crate::form::pair;
 use crate::pairs::judge_fetch;
 use crate::pairs::judge_roll_back;
 use crate::pairs::judge_send;
@@ -16,6 +15,7 @@ use crate::pairs::judge_write;
 use crate::sets::judge_commit;
 use crate::sets::judge_elect;
 use crate::sets::judge_reconfigure;
+use algorithm::set_in;
 
 // Of a kind that does not use the second server, or the set, neither is looked at.
 fn judge_kind(t: &[u8], kind: u8, i: u8, j: u8, m: u16) -> u8
@@ -45,5 +45,5 @@ pub fn judge_action(t: &[u8], a: &[u8]) -> u8
     requires { ⌜ first (formRefusals (count (tableIn (now t))) (now a)) ≡ 0 ⌝ }
     ensures { λ r. ⌜ r ≡ first (ownRefusals (tableIn (now (t .entry))) (actionOf (now (a .entry)))) ⌝ }
 {
-    judge_kind(t, a[0], a[1], a[2], pair(a[4], a[5]))
+    judge_kind(t, a[0], a[1], a[2], set_in(a))
 }

@@ -4,17 +4,17 @@ ghost use Rattle.algorithm.specs.Actions.{sendRefusals, spreadRefusals, writeRe
 ghost use Rattle.algorithm.specs.Refusals.{first};
 ghost use Rattle.table.specs.Layout.{tableIn};
 ghost use Rattle.table.specs.Slice.{Held, Within};
-ghost use Rattle.judges.specs.Refused.{holdsIn};
+ghost use Rattle.form.specs.Refused.{holdsIn};
 use crate::roles::PRIMARY;
 use crate::roles::SECONDARY;
 use crate::roles::lacks_role;
-use questions::figures::last_of;
-use questions::figures::length_of;
-use questions::logs::POSITIONS;
-use questions::logs::is_prefix;
-use questions::logs::joins;
-use questions::servers::larger_term;
-use questions::servers::newer_config;
+use algorithm::POSITIONS;
+use comparisons::is_prefix;
+use comparisons::joins;
+use comparisons::larger_term;
+use comparisons::newer_config;
+use table::rows::last_of;
+use table::rows::length_of;
 
 pub fn judge_send(t: &[u8], i: usize, j: usize) -> u8
     requires { ⌜ Held (now t) ⌝ }

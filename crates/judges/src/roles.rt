@@ -5,7 +5,7 @@ ghost use lib.Dec.{eqb};
 ghost use Rattle.algorithm.specs.Table.{server};
 ghost use Rattle.table.specs.Layout.{tableIn};
 ghost use Rattle.table.specs.Slice.{Held, Within};
-use questions::figures::role_of;
+use table::rows::role_of;
 
 pub const SECONDARY: u32 = 0;
 

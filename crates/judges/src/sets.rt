@@ -3,32 +3,30 @@ ghost use mathlib.Core.Path.{_≡_};
 ghost use mathlib.Core.Bool.{false};
 ghost use lib.Dec.{eqb};
 ghost use lib.ListN.{drop};
-ghost use Rattle.members.specs.Members.{majority, oneApart};
-ghost use Rattle.algorithm.specs.Table.{server, ceiling};
-ghost use Rattle.algorithm.specs.Actions.{electRefusals, p1, reconfigureRefusals, commitRefusals};
+ghost use lib.Bits.{bitAnd};
+ghost use Rattle.members.specs.Members.{majority, oneApart, mask};
+ghost use Rattle.algorithm.specs.Table.{count, server, ceiling};
+ghost use Rattle.algorithm.specs.Actions.{electRefusals, sameTerm, p1, reconfigureRefusals, commitRefusals};
 ghost use Rattle.algorithm.specs.Refusals.{first};
 ghost use Rattle.table.specs.Layout.{tableIn};
 ghost use Rattle.table.specs.Slice.{Held, Within};
-ghost use Rattle.judges.specs.Refused.{holdsIn};
+ghost use Rattle.form.specs.Refused.{holdsIn};
 use crate::roles::PRIMARY;
 use crate::roles::lacks_role;
+use algorithm::CEILING;
 use members::is_majority;
 use members::is_member;
 use members::is_one_apart;
-use questions::figures::last_of;
-use questions::figures::length_of;
-use questions::figures::set_of;
-use questions::figures::term_of;
-use questions::figures::version_of;
-use questions::logs::some_marked;
+use questions::marks::holding;
+use questions::marks::some_marked;
 use questions::servers::Question;
-use questions::servers::all_pass;
-use questions::servers::most_pass;
-use questions::servers::some_pass;
+use questions::servers::passing;
+use table::rows::last_of;
+use table::rows::length_of;
 use table::rows::mark_of;
-
-// The largest term and the largest version.
-const CEILING: u32 = 1_000_000_000;
+use table::rows::set_of;
+use table::rows::term_of;
+use table::rows::version_of;
 
 fn is_majority_of(t: &[u8], i: usize, q: u16) -> bool
     requires { ⌜ Held (now t) ⌝ }
@@ -70,13 +68,16 @@ pub fn judge_elect(t: &[u8], i: usize, q: u16) -> u8
     if !(is_majority_of(t, i, q) & is_member(i as u8, q)) {
         return 7;
     }
-    if some_pass(t, Question::LargerTerm, i, q) {
+    let larger = 0 < passing(t, Question::LargerTerm, i, q);
+    if larger {
         return 8;
     }
-    if some_pass(t, Question::NewerConfig, i, q) {
+    let newer = 0 < passing(t, Question::NewerConfig, i, q);
+    if newer {
         return 9;
     }
-    if some_pass(t, Question::LogAhead, i, q) {
+    let ahead = 0 < passing(t, Question::LogAhead, i, q);
+    if ahead {
         return 10;
     }
     if is_last_term(t, i) {
@@ -85,14 +86,15 @@ pub fn judge_elect(t: &[u8], i: usize, q: u16) -> u8
     0
 }
 
-// P1.
-fn is_safe(t: &[u8], i: usize) -> bool
+// P1, where `same` are the members of the set that have the term of server i.
+fn is_safe(t: &[u8], i: usize, same: u16) -> bool
     requires { ⌜ Held (now t) ⌝ }
     requires { ⌜ Within (now t) i ⌝ }
+    requires { ⌜ same ≡ bitAnd (server (tableIn (now t)) i .config .set) (mask (count (tableIn (now t))) (sameTerm (tableIn (now t)) i)) ⌝ }
     ensures { λ r. ⌜ r ≡ p1 (tableIn (now (t .entry))) i ⌝ }
 {
     if some_marked(t, i) {
-        return most_pass(t, Question::HoldsCommitted, i);
+        return is_majority_of(t, i, holding(t, i, same));
     }
     false
 }
@@ -103,13 +105,15 @@ fn judge_majorities(t: &[u8], i: usize) -> u8
     requires { ⌜ Within (now t) i ⌝ }
     ensures { λ r. ⌜ r ≡ first (drop 4 (reconfigureRefusals (tableIn (now (t .entry))) i 0)) ⌝ }
 {
-    if !most_pass(t, Question::SameConfig, i) {
+    let set = set_of(t, i);
+    if !is_majority(passing(t, Question::SameConfig, i, set), set) {
         return 14;
     }
-    if !most_pass(t, Question::SameTerm, i) {
+    let same = passing(t, Question::SameTerm, i, set);
+    if !is_majority(same, set) {
         return 15;
     }
-    if !is_safe(t, i) {
+    if !is_safe(t, i, same) {
         return 16;
     }
     0
@@ -169,7 +173,8 @@ pub fn judge_commit(t: &[u8], i: usize, q: u16) -> u8
     if lacks_entry(t, i) {
         return 22;
     }
-    if !all_pass(t, Question::HoldsLast, i, q) {
+    let held = passing(t, Question::HoldsLast, i, q) == q;
+    if !held {
         return 23;
     }
     if is_marked_otherwise(t, i) {

@@ -1,7 +1,7 @@
 -- A mask and the test "is a member": the count of ones is the count of members, `&` and `^` work member by member,
 -- masks with the same members are equal, and each test on servers has its mask. Assumes nothing.
 use mathlib.Core.Path.{_≡_, refl, sym, ap, ap₂, subst, _∙_}
-use mathlib.Core.Bool.{Bool, true, false, _&&_}
+use mathlib.Core.Bool.{Bool, true, false, _&&_, and-assoc}
 use mathlib.Core.Logic.{_⊎_, inl, inr}
 use Prim.Native.Nat.{ℕ, zero, suc, _+_, _-_, _*_, _/_, _%_, _^_, _≤_, _<_, min}
 use native.Mathlib.Nat.{mod-lt, mod-one, mod-eq-of-lt, div-eq-of-lt, div-lt-iff-lt-mul, eq-or-lt-of-le, zero-lt-suc, lt-of-lt-of-le, pow-suc}
@@ -12,7 +12,7 @@ use lib.Dec.{T, eqb, ltb}
 use borrow.Author.Tests.{eq-eqb, ne-eqb, lt-ltb, le-ltb}
 use lib.Arith.{bin-ind, digits-mod, digits-lt}
 use lib.Pow.{pow-pos, pow-mono, mod-pow-add, field, mod-mod-pow, high, low}
-use lib.Bits.{bitAnd, bitXor, differ, and-step, xor-step, and-shr, xor-shr, and-le-l, xor-lt}
+use lib.Bits.{bitAnd, bitXor, differ, and-step, xor-step, and-shr, xor-shr, and-le-l, and-le-r, xor-lt}
 use lib.Count.{ones, ones-step, ones-cat}
 use Rattle.members.specs.Members.{bit, member, Member, one, mask}
 use Rattle.members.proofs.Counting.{count, count-some, count-same, unlike}
@@ -211,3 +211,33 @@ in-mask n f (suc k) t = subst T (member-mask n f k (member-le n (suc k) (mask-lt
 pub mask-in : (n : ℕ) (f : ℕ → Bool) (s : ℕ) → 0 < s → s ≤ n → T (f s) → Member s (mask n f)
 mask-in n f zero h l t = absurd (omega arith)
 mask-in n f (suc k) h l t = subst T (sym (member-mask n f k l)) t
+
+-- a mask is known by its members
+pub mask-is : (n m : ℕ) (f : ℕ → Bool) → m < 2 ^ n → ((k : ℕ) → k < n → member (suc k) m ≡ f (suc k)) → m ≡ mask n f
+mask-is n m f h e = ext m (mask n f) same
+  where
+    at : (k : ℕ) → Dec (k < n) → member (suc k) m ≡ member (suc k) (mask n f)
+    at k (yes l) = e k l ∙ sym (member-mask n f k l)
+    at k (no l) = member-above n (suc k) h (omega arith) ∙ sym (member-above n (suc k) (mask-lt n f) (omega arith))
+
+    same : (s : ℕ) → member s m ≡ member s (mask n f)
+    same zero = refl
+    same (suc k) = at k (decLt k n)
+
+-- the members of q that pass, and those of them that pass another test too
+pub and-passing : (n q : ℕ) (f : ℕ → Bool) → bitAnd q (mask n f) ≡ mask n (λ s. member s q && f s)
+and-passing n q f =
+    mask-is n (bitAnd q (mask n f)) (λ s. member s q && f s) (omega (arith, and-le-r q (mask n f), mask-lt n f))
+    (λ k l. and-member (suc k) q (mask n f) ∙ ap (λ (b : Bool). member (suc k) q && b) (member-mask n f k l))
+
+pub and-both : (n q : ℕ) (f g : ℕ → Bool) → bitAnd (bitAnd q (mask n f)) (mask n g) ≡ bitAnd q (mask n (λ s. f s && g s))
+and-both n q f g =
+    let m : ℕ = bitAnd q (mask n f) in
+    mask-is n (bitAnd m (mask n g)) (λ s. member s q && (f s && g s)) (omega (arith, and-le-r m (mask n g), mask-lt n g)) one-more
+    ∙ sym (and-passing n q (λ s. f s && g s))
+  where
+    one-more : (k : ℕ) → k < n → member (suc k) (bitAnd (bitAnd q (mask n f)) (mask n g)) ≡ (member (suc k) q && (f (suc k) && g (suc k)))
+    one-more k l =
+        and-member (suc k) (bitAnd q (mask n f)) (mask n g)
+        ∙ ap₂ _&&_ (and-member (suc k) q (mask n f) ∙ ap (λ (b : Bool). member (suc k) q && b) (member-mask n f k l)) (member-mask n g k l)
+        ∙ and-assoc (member (suc k) q) (f (suc k)) (g (suc k))

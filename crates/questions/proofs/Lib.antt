@@ -1,4 +1,4 @@
 -- The laws of questions.
 pub mod AnswerLaws
-pub mod LogLaws
+pub mod MarkLaws
 pub mod ServerLaws

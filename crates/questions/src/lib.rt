@@ -1,4 +1,3 @@
-// What the judges ask of a table: figures of one server, logs beside each other, and the servers that pass a question.
-pub mod figures;
-pub mod logs;
+// What is asked of every server of a set: the members that pass a question, and those that hold what is marked.
+pub mod marks;
 pub mod servers;

@@ -1,20 +1,22 @@
 // Questions asked of the servers of a set: one loop makes the set of those that pass, and the rest are operations on sets.
 ghost use mathlib.Core.Path.{_≡_};
-ghost use Rattle.members.specs.Members.{mask, allPass, somePass, mostPass};
-ghost use Rattle.algorithm.specs.Table.{count, server};
-ghost use Rattle.algorithm.specs.Actions.{largerTerm, newerConfig, logAhead, sameConfig, sameTerm, holdsCommitted, holdsLast};
+ghost use mathlib.Core.Bool.{_&&_};
+ghost use Prim.Native.Nat.{_+_, _<_};
+ghost use lib.Bits.{bitAnd};
+ghost use Rattle.members.specs.Members.{bit, mask};
+ghost use Rattle.algorithm.specs.Table.{count};
 ghost use Rattle.table.specs.Layout.{tableIn};
 ghost use Rattle.table.specs.Slice.{Held, Within};
-ghost use Rattle.questions.specs.Questions.{asked};
-use crate::figures::config_of;
-use crate::figures::last_of;
-use crate::figures::length_of;
-use crate::figures::set_of;
-use crate::figures::term_of;
-use crate::figures::version_of;
-use crate::logs::holds;
-use crate::logs::holds_marked;
-use members::is_majority;
+ghost use Rattle.questions.specs.Questions.{asked, Askable};
+use algorithm::Position;
+use algorithm::Term;
+use comparisons::holds;
+use comparisons::holds_last;
+use comparisons::larger_term;
+use comparisons::log_ahead;
+use comparisons::newer_config;
+use comparisons::same_config;
+use comparisons::same_term;
 use members::with_next;
 use table::rows::count_of;
 
@@ -24,82 +26,8 @@ pub enum Question {
     LogAhead,
     SameConfig,
     SameTerm,
-    HoldsCommitted,
     HoldsLast,
-}
-
-pub fn larger_term(t: &[u8], i: usize, s: usize) -> bool
-    requires { ⌜ Held (now t) ⌝ }
-    requires { ⌜ Within (now t) i ⌝ }
-    requires { ⌜ Within (now t) s ⌝ }
-    ensures { λ r. ⌜ r ≡ largerTerm (tableIn (now (t .entry))) i s ⌝ }
-{
-    term_of(t, i).0 < term_of(t, s).0
-}
-
-pub fn newer_config(t: &[u8], i: usize, s: usize) -> bool
-    requires { ⌜ Held (now t) ⌝ }
-    requires { ⌜ Within (now t) i ⌝ }
-    requires { ⌜ Within (now t) s ⌝ }
-    ensures { λ r. ⌜ r ≡ newerConfig (tableIn (now (t .entry))) i s ⌝ }
-{
-    let a = config_of(t, s);
-    let b = config_of(t, i);
-    let v = version_of(t, s);
-    let w = version_of(t, i);
-    (b.0 < a.0) | (a.0 == b.0) & (w.0 < v.0)
-}
-
-fn log_ahead(t: &[u8], i: usize, s: usize) -> bool
-    requires { ⌜ Held (now t) ⌝ }
-    requires { ⌜ Within (now t) i ⌝ }
-    requires { ⌜ Within (now t) s ⌝ }
-    ensures { λ r. ⌜ r ≡ logAhead (tableIn (now (t .entry))) i s ⌝ }
-{
-    let a = last_of(t, s);
-    let b = last_of(t, i);
-    let p = length_of(t, s);
-    let q = length_of(t, i);
-    (b.0 < a.0) | (a.0 == b.0) & (q.0 < p.0)
-}
-
-fn same_config(t: &[u8], i: usize, s: usize) -> bool
-    requires { ⌜ Held (now t) ⌝ }
-    requires { ⌜ Within (now t) i ⌝ }
-    requires { ⌜ Within (now t) s ⌝ }
-    ensures { λ r. ⌜ r ≡ sameConfig (tableIn (now (t .entry))) i s ⌝ }
-{
-    (version_of(t, s).0 == version_of(t, i).0) & (config_of(t, s).0 == config_of(t, i).0)
-}
-
-fn same_term(t: &[u8], i: usize, s: usize) -> bool
-    requires { ⌜ Held (now t) ⌝ }
-    requires { ⌜ Within (now t) i ⌝ }
-    requires { ⌜ Within (now t) s ⌝ }
-    ensures { λ r. ⌜ r ≡ sameTerm (tableIn (now (t .entry))) i s ⌝ }
-{
-    term_of(t, s).0 == term_of(t, i).0
-}
-
-fn holds_committed(t: &[u8], i: usize, s: usize) -> bool
-    requires { ⌜ Held (now t) ⌝ }
-    requires { ⌜ Within (now t) i ⌝ }
-    requires { ⌜ Within (now t) s ⌝ }
-    ensures { λ r. ⌜ r ≡ holdsCommitted (tableIn (now (t .entry))) i s ⌝ }
-{
-    if same_term(t, i, s) {
-        return holds_marked(t, i, s);
-    }
-    false
-}
-
-fn holds_last(t: &[u8], i: usize, s: usize) -> bool
-    requires { ⌜ Held (now t) ⌝ }
-    requires { ⌜ Within (now t) i ⌝ }
-    requires { ⌜ Within (now t) s ⌝ }
-    ensures { λ r. ⌜ r ≡ holdsLast (tableIn (now (t .entry))) i s ⌝ }
-{
-    same_term(t, i, s) & holds(t, s, length_of(t, i), term_of(t, i))
+    Holds(Position, Term),
 }
 
 // The answer of server s, beside server i.
@@ -107,6 +35,7 @@ fn answer(t: &[u8], question: Question, i: usize, s: usize) -> bool
     requires { ⌜ Held (now t) ⌝ }
     requires { ⌜ Within (now t) i ⌝ }
     requires { ⌜ Within (now t) s ⌝ }
+    requires { ⌜ Askable question ⌝ }
     ensures { λ r. ⌜ r ≡ asked question (tableIn (now (t .entry))) i s ⌝ }
 {
     match question {
@@ -115,49 +44,38 @@ fn answer(t: &[u8], question: Question, i: usize, s: usize) -> bool
         Question::LogAhead => log_ahead(t, i, s),
         Question::SameConfig => same_config(t, i, s),
         Question::SameTerm => same_term(t, i, s),
-        Question::HoldsCommitted => holds_committed(t, i, s),
         Question::HoldsLast => holds_last(t, i, s),
+        Question::Holds(p, term) => holds(t, s, p, term),
     }
 }
 
-// The servers that pass.
-pub fn passing(t: &[u8], question: Question, i: usize) -> u16
+// A server outside of the set is not asked. Server k + 1 is bit k.
+fn passes(t: &[u8], question: Question, i: usize, q: u16, k: usize) -> bool
     requires { ⌜ Held (now t) ⌝ }
     requires { ⌜ Within (now t) i ⌝ }
-    ensures { λ r. ⌜ r ≡ mask (count (tableIn (now (t .entry)))) (asked question (tableIn (now (t .entry))) i) ⌝ }
+    requires { ⌜ Within (now t) (k + 1) ⌝ }
+    requires { ⌜ Askable question ⌝ }
+    ensures { λ r. ⌜ r ≡ (bit k q && asked question (tableIn (now (t .entry))) i (k + 1)) ⌝ }
+{
+    if (q >> k) % 2 == 1 {
+        return answer(t, question, i, k + 1);
+    }
+    false
+}
+
+// The members of q that pass.
+pub fn passing(t: &[u8], question: Question, i: usize, q: u16) -> u16
+    requires { ⌜ Held (now t) ⌝ }
+    requires { ⌜ Within (now t) i ⌝ }
+    requires { ⌜ Askable question ⌝ }
+    ensures { λ r. ⌜ r ≡ bitAnd q (mask (count (tableIn (now (t .entry)))) (asked question (tableIn (now (t .entry))) i)) ⌝ }
 {
     let n = count_of(t) as usize;
     let mut m: u16 = 0;
     let mut k: usize = 0;
     while k < n {
-        m = with_next(m, k, answer(t, question, i, k + 1));
+        m = with_next(m, k, passes(t, question, i, q, k));
         k += 1;
     }
     m
-}
-
-pub fn some_pass(t: &[u8], question: Question, i: usize, q: u16) -> bool
-    requires { ⌜ Held (now t) ⌝ }
-    requires { ⌜ Within (now t) i ⌝ }
-    ensures { λ r. ⌜ r ≡ somePass (count (tableIn (now (t .entry)))) (asked question (tableIn (now (t .entry))) i) q ⌝ }
-{
-    0 < q & passing(t, question, i)
-}
-
-pub fn all_pass(t: &[u8], question: Question, i: usize, q: u16) -> bool
-    requires { ⌜ Held (now t) ⌝ }
-    requires { ⌜ Within (now t) i ⌝ }
-    ensures { λ r. ⌜ r ≡ allPass (count (tableIn (now (t .entry)))) (asked question (tableIn (now (t .entry))) i) q ⌝ }
-{
-    q & passing(t, question, i) == q
-}
-
-// A majority of the set of server i passes.
-pub fn most_pass(t: &[u8], question: Question, i: usize) -> bool
-    requires { ⌜ Held (now t) ⌝ }
-    requires { ⌜ Within (now t) i ⌝ }
-    ensures { λ r. ⌜ r ≡ mostPass (count (tableIn (now (t .entry)))) (asked question (tableIn (now (t .entry))) i) (server (tableIn (now (t .entry))) i .config .set) ⌝ }
-{
-    let m = set_of(t, i);
-    is_majority(m & passing(t, question, i), m)
 }

@@ -3,6 +3,7 @@ ghost use mathlib.Core.Path.{_≡_};
 ghost use Prim.Native.Nat.{_≤_, _<_};
 ghost use lib.ListN.{length, getD};
 ghost use Rattle.algorithm.specs.Table.{count, server, termAt, mark};
+ghost use Rattle.algorithm.specs.Comparisons.{last};
 ghost use Rattle.algorithm.specs.Actions.{withConfig};
 ghost use Rattle.table.specs.Layout.{row, tableIn};
 ghost use Rattle.table.specs.Slice.{Held, Became, Within, changed, withRole, withTerm, withEntry, withoutLast, withMark, seen};
@@ -59,7 +60,23 @@ fn field(t: &[u8], s: usize, f: usize) -> u32
     word(t, ROW * s + f)
 }
 
-fn set_of(t: &[u8], s: usize) -> u16
+pub fn role_of(t: &[u8], s: usize) -> u32
+    requires { ⌜ Held (now t) ⌝ }
+    requires { ⌜ Within (now t) s ⌝ }
+    ensures { λ r. ⌜ r ≡ server (tableIn (now (t .entry))) s .role ⌝ }
+{
+    field(t, s, ROLE)
+}
+
+pub fn term_of(t: &[u8], s: usize) -> Term
+    requires { ⌜ Held (now t) ⌝ }
+    requires { ⌜ Within (now t) s ⌝ }
+    ensures { λ r. ⌜ r .0 ≡ server (tableIn (now (t .entry))) s .term ⌝ }
+{
+    Term(field(t, s, TERM))
+}
+
+pub fn set_of(t: &[u8], s: usize) -> u16
     requires { ⌜ Held (now t) ⌝ }
     requires { ⌜ Within (now t) s ⌝ }
     ensures { λ r. ⌜ r ≡ server (tableIn (now (t .entry))) s .config .set ⌝ }
@@ -67,12 +84,29 @@ fn set_of(t: &[u8], s: usize) -> u16
     field(t, s, SET) as u16
 }
 
-fn length_of(t: &[u8], s: usize) -> u32
+pub fn version_of(t: &[u8], s: usize) -> Version
     requires { ⌜ Held (now t) ⌝ }
     requires { ⌜ Within (now t) s ⌝ }
-    ensures { λ r. ⌜ (r ≡ length (server (tableIn (now (t .entry))) s .log)) × (r ≤ 64) ⌝ }
+    ensures { λ r. ⌜ r .0 ≡ server (tableIn (now (t .entry))) s .config .version ⌝ }
 {
-    field(t, s, LENGTH)
+    Version(field(t, s, VERSION))
+}
+
+// The configuration term.
+pub fn config_of(t: &[u8], s: usize) -> Term
+    requires { ⌜ Held (now t) ⌝ }
+    requires { ⌜ Within (now t) s ⌝ }
+    ensures { λ r. ⌜ r .0 ≡ server (tableIn (now (t .entry))) s .config .term ⌝ }
+{
+    Term(field(t, s, CONFIG))
+}
+
+pub fn length_of(t: &[u8], s: usize) -> Position
+    requires { ⌜ Held (now t) ⌝ }
+    requires { ⌜ Within (now t) s ⌝ }
+    ensures { λ r. ⌜ (r .0 ≡ length (server (tableIn (now (t .entry))) s .log)) × (r .0 ≤ 64) ⌝ }
+{
+    Position(field(t, s, LENGTH) as u8)
 }
 
 pub fn row_of(t: &[u8], s: usize) -> Row
@@ -82,14 +116,23 @@ pub fn row_of(t: &[u8], s: usize) -> Row
 {
     let n = length_of(t, s);
     Row {
-        role: field(t, s, ROLE),
-        term: Term(field(t, s, TERM)),
+        role: role_of(t, s),
+        term: term_of(t, s),
         set: set_of(t, s),
-        version: Version(field(t, s, VERSION)),
-        config: Term(field(t, s, CONFIG)),
-        length: Position(n as u8),
-        last: Term(field(t, s, LENGTH + n as usize)),
+        version: version_of(t, s),
+        config: config_of(t, s),
+        length: n,
+        last: Term(field(t, s, LENGTH + n.0 as usize)),
     }
+}
+
+// The log's last entry, 0 where it is empty.
+pub fn last_of(t: &[u8], s: usize) -> Term
+    requires { ⌜ Held (now t) ⌝ }
+    requires { ⌜ Within (now t) s ⌝ }
+    ensures { λ r. ⌜ r .0 ≡ last (server (tableIn (now (t .entry))) s .log) ⌝ }
+{
+    row_of(t, s).last
 }
 
 // The entry of server s at a position, 0 where it has none.
@@ -145,7 +188,7 @@ pub fn push(t: &mut [u8], s: usize, v: Term)
     requires { ⌜ length (server (tableIn (now t)) s .log) < 64 ⌝ }
     ensures { λ _. ⌜ Became (now (t .entry)) (now (t .exit)) (changed (tableIn (now (t .entry))) s (withEntry (v .0))) ⌝ }
 {
-    let n = length_of(t, s) + 1;
+    let n = length_of(t, s).0 as u32 + 1;
     let at = ROW * s + LENGTH;
     put(t, at, n);
     put(t, at + n as usize, v.0);
@@ -158,7 +201,7 @@ pub fn pop(t: &mut [u8], s: usize)
     requires { ⌜ 1 ≤ length (server (tableIn (now t)) s .log) ⌝ }
     ensures { λ _. ⌜ Became (now (t .entry)) (now (t .exit)) (changed (tableIn (now (t .entry))) s withoutLast) ⌝ }
 {
-    let n = length_of(t, s);
+    let n = length_of(t, s).0 as u32;
     let at = ROW * s + LENGTH;
     put(t, at, n - 1);
     put(t, at + n as usize, 0);

@@ -1,6 +1,6 @@
 -- `judges::action::judge_action` meets its contract. Assumes nothing.
 use borrow.Author.Needs.{needs}
-use Rattle.judges.proofs.FormLaws.{form-reads, form-first, form-second, form-kind, with-set}
+use Rattle.judges.proofs.ActionLaws.{form-length, form-reads, form-first, form-second, form-kind, with-set}
 use Rattle.judges.proofs.action.judge_action.Statement.{statement}
 use Rattle.judges.proofs.action.judge_action.Tie as tie
 
@@ -13,14 +13,8 @@ shared-slice-read-judge-kind-2 c = search (needs, form-reads)
 shared-slice-read-judge-kind-3 : tie.Need-shared-slice-read-judge-kind-3
 shared-slice-read-judge-kind-3 c = search (needs, form-reads)
 
-shared-slice-read-pair : tie.Need-shared-slice-read-pair
-shared-slice-read-pair c = search (needs, form-reads)
-
-shared-slice-read-pair-2 : tie.Need-shared-slice-read-pair-2
-shared-slice-read-pair-2 c = search (needs, form-reads)
-
-pair-requires : tie.Need-pair-requires
-pair-requires c κs = search needs
+set-in-requires : tie.Need-set-in-requires
+set-in-requires c κs = search (needs, form-length)
 
 judge-kind-requires : tie.Need-judge-kind-requires
 judge-kind-requires c κs = search (needs, form-first, form-second, form-kind)
@@ -35,8 +29,6 @@ judge-action-spec =
     shared-slice-read-judge-kind
     shared-slice-read-judge-kind-2
     shared-slice-read-judge-kind-3
-    shared-slice-read-pair
-    shared-slice-read-pair-2
-    pair-requires
+    set-in-requires
     judge-kind-requires
     returns)

@@ -1,6 +1,6 @@
 -- `judges::action::judge_kind` meets its contract. Assumes nothing.
 use borrow.Author.Needs.{needs}
-use Rattle.judges.proofs.FormLaws.{second-known, of-kind, last-kind}
+use Rattle.judges.proofs.ActionLaws.{second-known, of-kind, last-kind}
 use Rattle.judges.proofs.action.judge_kind.Statement.{statement}
 use Rattle.judges.proofs.action.judge_kind.Tie as tie
 

@@ -1,6 +1,6 @@
 -- `judges::pairs::cannot_roll_back` meets its contract. Assumes nothing.
 use borrow.Author.Needs.{needs}
-use Rattle.judges.proofs.RefusalLaws.{prefix-decides, not-less}
+use Rattle.judges.proofs.LogLaws.{prefix-decides, not-less}
 use Rattle.judges.proofs.pairs.cannot_roll_back.Statement.{statement}
 use Rattle.judges.proofs.pairs.cannot_roll_back.Tie as tie
 

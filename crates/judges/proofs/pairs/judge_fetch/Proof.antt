@@ -1,6 +1,6 @@
 -- `judges::pairs::judge_fetch` meets its contract. Assumes nothing.
 use borrow.Author.Needs.{needs}
-use Rattle.judges.proofs.RefusalLaws.{judging}
+use Rattle.form.proofs.RefusalLaws.{judging}
 use Rattle.judges.proofs.pairs.judge_fetch.Statement.{statement}
 use Rattle.judges.proofs.pairs.judge_fetch.Tie as tie
 

@@ -1,6 +1,6 @@
 -- `judges::pairs::judge_send` meets its contract. Assumes nothing.
 use borrow.Author.Needs.{needs}
-use Rattle.judges.proofs.RefusalLaws.{judging}
+use Rattle.form.proofs.RefusalLaws.{judging}
 use Rattle.judges.proofs.pairs.judge_send.Statement.{statement}
 use Rattle.judges.proofs.pairs.judge_send.Tie as tie
 

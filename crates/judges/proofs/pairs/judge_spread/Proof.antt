@@ -1,6 +1,6 @@
 -- `judges::pairs::judge_spread` meets its contract. Assumes nothing.
 use borrow.Author.Needs.{needs}
-use Rattle.judges.proofs.RefusalLaws.{judging}
+use Rattle.form.proofs.RefusalLaws.{judging}
 use Rattle.judges.proofs.pairs.judge_spread.Statement.{statement}
 use Rattle.judges.proofs.pairs.judge_spread.Tie as tie
 

@@ -1,6 +1,6 @@
 -- `judges::pairs::judge_write` meets its contract. Assumes nothing.
 use borrow.Author.Needs.{needs}
-use Rattle.judges.proofs.RefusalLaws.{judging}
+use Rattle.form.proofs.RefusalLaws.{judging}
 use Rattle.judges.proofs.pairs.judge_write.Statement.{statement}
 use Rattle.judges.proofs.pairs.judge_write.Tie as tie
 

@@ -1,6 +1,6 @@
 -- `judges::sets::is_marked_otherwise` meets its contract. Assumes nothing.
 use borrow.Author.Needs.{needs}
-use Rattle.judges.proofs.RefusalLaws.{has-entry}
+use Rattle.judges.proofs.LogLaws.{has-entry}
 use Rattle.judges.proofs.sets.is_marked_otherwise.Statement.{statement}
 use Rattle.judges.proofs.sets.is_marked_otherwise.Tie as tie
 

@@ -1,6 +1,6 @@
 -- `judges::sets::judge_commit` meets its contract. Assumes nothing.
 use borrow.Author.Needs.{needs}
-use Rattle.judges.proofs.RefusalLaws.{judging}
+use Rattle.judges.proofs.SetLaws.{weighing}
 use Rattle.judges.proofs.sets.judge_commit.Statement.{statement}
 use Rattle.judges.proofs.sets.judge_commit.Tie as tie
 
@@ -8,34 +8,34 @@ lacks-role-requires : tie.Need-lacks-role-requires
 lacks-role-requires c κs = search needs
 
 returns : tie.Need-returns
-returns c = search judging depth 9
+returns c = search weighing depth 9
 
 is-majority-of-requires : tie.Need-is-majority-of-requires
 is-majority-of-requires c κs = search needs
 
 returns-2 : tie.Need-returns-2
-returns-2 c = search judging depth 9
+returns-2 c = search weighing depth 9
 
 lacks-entry-requires : tie.Need-lacks-entry-requires
 lacks-entry-requires c κs = search needs
 
 returns-3 : tie.Need-returns-3
-returns-3 c = search judging depth 9
+returns-3 c = search weighing depth 9
 
-all-pass-requires : tie.Need-all-pass-requires
-all-pass-requires c κs = search needs
+passing-requires : tie.Need-passing-requires
+passing-requires c κs = search needs
 
 returns-4 : tie.Need-returns-4
-returns-4 c = search judging depth 9
+returns-4 c = search weighing depth 9
 
 is-marked-otherwise-requires : tie.Need-is-marked-otherwise-requires
 is-marked-otherwise-requires c κs = (search needs, (search needs, cc))
 
 returns-5 : tie.Need-returns-5
-returns-5 c = search judging depth 9
+returns-5 c = search weighing depth 9
 
 returns-6 : tie.Need-returns-6
-returns-6 c = search judging depth 9
+returns-6 c = search weighing depth 9
 
 pub judge-commit-spec : {M : Type 1} → statement M
 judge-commit-spec =
@@ -47,7 +47,7 @@ judge-commit-spec =
     returns-2
     lacks-entry-requires
     returns-3
-    all-pass-requires
+    passing-requires
     returns-4
     is-marked-otherwise-requires
     returns-5

@@ -1,6 +1,6 @@
 -- `judges::sets::judge_reconfigure` meets its contract. Assumes nothing.
 use borrow.Author.Needs.{needs}
-use Rattle.judges.proofs.RefusalLaws.{judging}
+use Rattle.form.proofs.RefusalLaws.{judging}
 use Rattle.judges.proofs.sets.judge_reconfigure.Statement.{statement}
 use Rattle.judges.proofs.sets.judge_reconfigure.Tie as tie
 

@@ -1,5 +1,6 @@
 -- `questions::servers::answer` meets its contract. Assumes nothing.
 use borrow.Author.Needs.{needs}
+use Rattle.questions.proofs.ServerLaws.{answered, position-asked}
 use Rattle.questions.proofs.servers.answer.Statement.{statement}
 use Rattle.questions.proofs.servers.answer.Tie as tie
 
@@ -36,35 +37,35 @@ same-term-requires c κs = search needs
 enum-told-6 : tie.Need-enum-told-6
 enum-told-6 c = search needs
 
-holds-committed-requires : tie.Need-holds-committed-requires
-holds-committed-requires c κs = search needs
-
-enum-told-7 : tie.Need-enum-told-7
-enum-told-7 c = search needs
-
 holds-last-requires : tie.Need-holds-last-requires
 holds-last-requires c κs = search needs
 
+enum-known-question : tie.Need-enum-known-question
+enum-known-question c = search needs
+
+holds-requires : tie.Need-holds-requires
+holds-requires c κs = search (needs, position-asked)
+
 returns : tie.Need-returns
-returns c = cc
+returns c = search (needs, answered)
 
 returns-2 : tie.Need-returns-2
-returns-2 c = cc
+returns-2 c = search (needs, answered)
 
 returns-3 : tie.Need-returns-3
-returns-3 c = cc
+returns-3 c = search (needs, answered)
 
 returns-4 : tie.Need-returns-4
-returns-4 c = cc
+returns-4 c = search (needs, answered)
 
 returns-5 : tie.Need-returns-5
-returns-5 c = cc
+returns-5 c = search (needs, answered)
 
 returns-6 : tie.Need-returns-6
-returns-6 c = cc
+returns-6 c = search (needs, answered)
 
 returns-7 : tie.Need-returns-7
-returns-7 c = cc
+returns-7 c = search (needs, answered)
 
 pub answer-spec : {M : Type 1} → statement M
 answer-spec =
@@ -81,9 +82,9 @@ answer-spec =
     enum-told-5
     same-term-requires
     enum-told-6
-    holds-committed-requires
-    enum-told-7
     holds-last-requires
+    enum-known-question
+    holds-requires
     returns
     returns-2
     returns-3

@@ -1,22 +1,20 @@
--- `questions::servers::passing` meets its contract. The loop's invariant: m has those of the servers 1 to k that pass. Assumes nothing.
+-- `questions::servers::passing` meets its contract. The loop's invariant: m has those of the servers 1 to k that are in q and pass.
+-- Assumes nothing.
 use mathlib.Core.Path.{_≡_}
 use Prim.Native.Nat.{_-_, _≤_}
-use native.Mathlib.Omega.{arith}
-use denote.Ref.{now}
 use borrow.Author.Needs.{needs}
-use Rattle.members.specs.Members.{mask}
 use Rattle.algorithm.specs.Table.{count}
 use Rattle.table.specs.Layout.{tableIn}
 use Rattle.questions.specs.Questions.{asked}
-use Rattle.questions.proofs.ServerLaws.{pass-none, pass-fits, pass-next, pass-all}
+use Rattle.questions.proofs.ServerLaws.{Passed, pass-none, pass-fits, pass-next, pass-all}
 use Rattle.questions.proofs.servers.passing.Statement.{statement}
 use Rattle.questions.proofs.servers.passing.Tie as tie
 
 abbrev Inv-loop : tie.InvT-loop
-Inv-loop t question i n m₀ k₀ m k = (k ≤ n) × (n ≡ count (tableIn t)) × (m ≡ mask k (asked question (tableIn t) i))
+Inv-loop t question i q n m₀ k₀ m k = (k ≤ n) × (n ≡ count (tableIn t)) × Passed (asked question (tableIn t) i) q k m
 
 abbrev μ-loop : tie.MeasureT-loop
-μ-loop t question i n m₀ k₀ m k = n - k
+μ-loop t question i q n m₀ k₀ m k = n - k
 
 count-of-requires : tie.Need-count-of-requires Inv-loop μ-loop
 count-of-requires c κs = search needs
@@ -27,11 +25,8 @@ cast-n c = search needs
 loop-holds : tie.Need-loop-holds Inv-loop μ-loop
 loop-holds c = search (needs, pass-none)
 
-add-answer : tie.Need-add-answer Inv-loop μ-loop
-add-answer c = search needs
-
-answer-requires : tie.Need-answer-requires Inv-loop μ-loop
-answer-requires c κs = search needs
+passes-requires : tie.Need-passes-requires Inv-loop μ-loop
+passes-requires c κs = (search needs, (search needs, (search needs, search needs)))
 
 with-next-requires : tie.Need-with-next-requires Inv-loop μ-loop
 with-next-requires c κs = search (needs, pass-fits)
@@ -43,10 +38,7 @@ loop-less : tie.Need-loop-less Inv-loop μ-loop
 loop-less c = search needs
 
 loop-again : tie.Need-loop-again Inv-loop μ-loop
-loop-again c =
-    let turn = c .before .before in
-    let a = turn .before .before .before .before .args in
-    (search needs, search needs, pass-next (asked (a .question) (tableIn (now (a .t))) (a .i)) _ _ _ _ (turn .before .loop .inv .2) (c .before .answer .ensures) (c .with-next .ensures))
+loop-again c = (search needs, search needs, pass-next _ _ _ _ _ _ (c .before .before .before .loop .inv .2) (c .before .passes .ensures) (c .with-next .ensures))
 
 returns : tie.Need-returns Inv-loop μ-loop
 returns c = search (needs, pass-all)
@@ -60,8 +52,7 @@ passing-spec =
     count-of-requires
     cast-n
     loop-holds
-    add-answer
-    answer-requires
+    passes-requires
     with-next-requires
     add-k
     loop-less

@@ -1,4 +1,6 @@
 -- `table::rows::length_of` meets its contract. Assumes nothing.
+use Prim.Native.Nat.{_≤_}
+use native.Mathlib.Omega.{arith}
 use borrow.Author.Needs.{needs}
 use Rattle.table.proofs.RowLaws.{log-short}
 use Rattle.table.proofs.rows.length_of.Statement.{statement}
@@ -7,8 +9,11 @@ use Rattle.table.proofs.rows.length_of.Tie as tie
 field-requires : tie.Need-field-requires
 field-requires c κs = search needs
 
+cast-t4 : tie.Need-cast-t4
+cast-t4 c = let h : c .field .result ≤ 64 = search log-short in omega arith
+
 returns : tie.Need-returns
 returns c = search log-short
 
 pub length-of-spec : {M : Type 1} → statement M
-length-of-spec = tie.close (tie.spec field-requires returns)
+length-of-spec = tie.close (tie.spec field-requires cast-t4 returns)

@@ -7,6 +7,9 @@ use Rattle.table.proofs.rows.pop.Tie as tie
 length-of-requires : tie.Need-length-of-requires
 length-of-requires c κs = search needs
 
+cast-n : tie.Need-cast-n
+cast-n c = search needs
+
 mul-at : tie.Need-mul-at
 mul-at c = search needs
 
@@ -39,6 +42,7 @@ pop-spec =
     tie.close
     (tie.spec
     length-of-requires
+    cast-n
     mul-at
     add-at
     sub-put

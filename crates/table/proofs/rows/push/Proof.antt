@@ -7,6 +7,9 @@ use Rattle.table.proofs.rows.push.Tie as tie
 length-of-requires : tie.Need-length-of-requires
 length-of-requires c κs = search needs
 
+cast-n : tie.Need-cast-n
+cast-n c = search needs
+
 add-n : tie.Need-add-n
 add-n c = search needs
 
@@ -39,6 +42,7 @@ push-spec =
     tie.close
     (tie.spec
     length-of-requires
+    cast-n
     add-n
     mul-at
     add-at

@@ -1,0 +1,3 @@
+-- The laws of comparisons.
+pub mod LogLaws
+pub mod FigureLaws

@@ -1,0 +1,134 @@
+// One server beside another: terms, configurations and logs.
+ghost use mathlib.Core.Path.{_≡_};
+ghost use mathlib.Core.Bool.{_&&_, _||_};
+ghost use Prim.Native.Nat.{_≤_};
+ghost use lib.Dec.{ltb, eqb};
+ghost use Rattle.algorithm.specs.Table.{server};
+ghost use Rattle.algorithm.specs.Comparisons.{held, prefix};
+ghost use Rattle.algorithm.specs.Actions.{largerTerm, newerConfig, logAhead, sameConfig, sameTerm, holdsLast, joins as joinsOf};
+ghost use Rattle.table.specs.Layout.{tableIn};
+ghost use Rattle.table.specs.Slice.{Held, Within};
+use algorithm::Position;
+use algorithm::Term;
+use table::rows::config_of;
+use table::rows::entry_of;
+use table::rows::last_of;
+use table::rows::length_of;
+use table::rows::term_of;
+use table::rows::version_of;
+
+// By the first figures, and by the second where the first are equal: how configurations compare, and logs.
+fn is_later(a: u32, v: u32, b: u32, w: u32) -> bool
+    ensures { λ r. ⌜ r ≡ (ltb b a || eqb a b && ltb w v) ⌝ }
+{
+    (b < a) | (a == b) & (w < v)
+}
+
+pub fn larger_term(t: &[u8], i: usize, s: usize) -> bool
+    requires { ⌜ Held (now t) ⌝ }
+    requires { ⌜ Within (now t) i ⌝ }
+    requires { ⌜ Within (now t) s ⌝ }
+    ensures { λ r. ⌜ r ≡ largerTerm (tableIn (now (t .entry))) i s ⌝ }
+{
+    term_of(t, i).0 < term_of(t, s).0
+}
+
+pub fn newer_config(t: &[u8], i: usize, s: usize) -> bool
+    requires { ⌜ Held (now t) ⌝ }
+    requires { ⌜ Within (now t) i ⌝ }
+    requires { ⌜ Within (now t) s ⌝ }
+    ensures { λ r. ⌜ r ≡ newerConfig (tableIn (now (t .entry))) i s ⌝ }
+{
+    is_later(
+        config_of(t, s).0,
+        version_of(t, s).0,
+        config_of(t, i).0,
+        version_of(t, i).0,
+    )
+}
+
+pub fn log_ahead(t: &[u8], i: usize, s: usize) -> bool
+    requires { ⌜ Held (now t) ⌝ }
+    requires { ⌜ Within (now t) i ⌝ }
+    requires { ⌜ Within (now t) s ⌝ }
+    ensures { λ r. ⌜ r ≡ logAhead (tableIn (now (t .entry))) i s ⌝ }
+{
+    let p = length_of(t, s).0 as u32;
+    let q = length_of(t, i).0 as u32;
+    is_later(last_of(t, s).0, p, last_of(t, i).0, q)
+}
+
+pub fn same_config(t: &[u8], i: usize, s: usize) -> bool
+    requires { ⌜ Held (now t) ⌝ }
+    requires { ⌜ Within (now t) i ⌝ }
+    requires { ⌜ Within (now t) s ⌝ }
+    ensures { λ r. ⌜ r ≡ sameConfig (tableIn (now (t .entry))) i s ⌝ }
+{
+    (version_of(t, s).0 == version_of(t, i).0) & (config_of(t, s).0 == config_of(t, i).0)
+}
+
+pub fn same_term(t: &[u8], i: usize, s: usize) -> bool
+    requires { ⌜ Held (now t) ⌝ }
+    requires { ⌜ Within (now t) i ⌝ }
+    requires { ⌜ Within (now t) s ⌝ }
+    ensures { λ r. ⌜ r ≡ sameTerm (tableIn (now (t .entry))) i s ⌝ }
+{
+    term_of(t, s).0 == term_of(t, i).0
+}
+
+// The log of server s has the term at a position.
+pub fn holds(t: &[u8], s: usize, p: Position, term: Term) -> bool
+    requires { ⌜ Held (now t) ⌝ }
+    requires { ⌜ Within (now t) s ⌝ }
+    requires { ⌜ p .0 ≤ 64 ⌝ }
+    ensures { λ r. ⌜ r ≡ held (server (tableIn (now (t .entry))) s .log) (p .0) (term .0) ⌝ }
+{
+    if p.0 == 0 {
+        return false;
+    }
+    (p.0 <= length_of(t, s).0) & (entry_of(t, s, p).0 == term.0)
+}
+
+// Server s has the term of server i, and its last entry.
+pub fn holds_last(t: &[u8], i: usize, s: usize) -> bool
+    requires { ⌜ Held (now t) ⌝ }
+    requires { ⌜ Within (now t) i ⌝ }
+    requires { ⌜ Within (now t) s ⌝ }
+    ensures { λ r. ⌜ r ≡ holdsLast (tableIn (now (t .entry))) i s ⌝ }
+{
+    same_term(t, i, s) & holds(t, s, length_of(t, i), term_of(t, i))
+}
+
+// The log of server i is empty, or its last entry is that of server j at that position.
+pub fn joins(t: &[u8], i: usize, j: usize) -> bool
+    requires { ⌜ Held (now t) ⌝ }
+    requires { ⌜ Within (now t) i ⌝ }
+    requires { ⌜ Within (now t) j ⌝ }
+    ensures { λ r. ⌜ r ≡ joinsOf (server (tableIn (now (t .entry))) i .log) (server (tableIn (now (t .entry))) j .log) ⌝ }
+{
+    let p = length_of(t, i);
+    if p.0 == 0 {
+        return true;
+    }
+    last_of(t, i).0 == entry_of(t, j, p).0
+}
+
+// The log of server i is the beginning of that of server j.
+pub fn is_prefix(t: &[u8], i: usize, j: usize) -> bool
+    requires { ⌜ Held (now t) ⌝ }
+    requires { ⌜ Within (now t) i ⌝ }
+    requires { ⌜ Within (now t) j ⌝ }
+    ensures { λ r. ⌜ r ≡ prefix (server (tableIn (now (t .entry))) i .log) (server (tableIn (now (t .entry))) j .log) ⌝ }
+{
+    let n = length_of(t, i).0;
+    if length_of(t, j).0 < n {
+        return false;
+    }
+    let mut ok = true;
+    let mut k: u8 = 0;
+    while k < n {
+        k += 1;
+        ok = ok & (entry_of(t, i, Position(k)).0 == entry_of(t, j, Position(k)).0);
+    }
+    ok
+}

@@ -1,0 +1,102 @@
+-- `form::judge_fields` meets its contract. Assumes nothing.
+use borrow.Author.Needs.{needs}
+use Rattle.form.proofs.FormLaws.{stray-byte, pair-fields, set-fields, lone-fields}
+use Rattle.form.proofs.judge_fields.Statement.{statement}
+use Rattle.form.proofs.judge_fields.Tie as tie
+
+shared-slice-read-sum : tie.Need-shared-slice-read-sum
+shared-slice-read-sum c = search needs
+
+shared-slice-read-sum-2 : tie.Need-shared-slice-read-sum-2
+shared-slice-read-sum-2 c = search needs
+
+shared-slice-read-sum-3 : tie.Need-shared-slice-read-sum-3
+shared-slice-read-sum-3 c = search needs
+
+sum-requires : tie.Need-sum-requires
+sum-requires c κs = search needs
+
+returns : tie.Need-returns
+returns c = search (needs, stray-byte)
+
+shared-slice-read-kind : tie.Need-shared-slice-read-kind
+shared-slice-read-kind c = search needs
+
+uses-second-requires : tie.Need-uses-second-requires
+uses-second-requires c κs = search needs
+
+shared-slice-read-judge-pair : tie.Need-shared-slice-read-judge-pair
+shared-slice-read-judge-pair c = search needs
+
+shared-slice-read-judge-pair-2 : tie.Need-shared-slice-read-judge-pair-2
+shared-slice-read-judge-pair-2 c = search needs
+
+set-in-requires : tie.Need-set-in-requires
+set-in-requires c κs = search needs
+
+judge-pair-requires : tie.Need-judge-pair-requires
+judge-pair-requires c κs = search needs
+
+returns-2 : tie.Need-returns-2
+returns-2 c = search (needs, pair-fields)
+
+uses-set-requires : tie.Need-uses-set-requires
+uses-set-requires c κs = search needs
+
+shared-slice-read-judge-set : tie.Need-shared-slice-read-judge-set
+shared-slice-read-judge-set c = search needs
+
+shared-slice-read-judge-set-2 : tie.Need-shared-slice-read-judge-set-2
+shared-slice-read-judge-set-2 c = search needs
+
+set-in-requires-2 : tie.Need-set-in-requires-2
+set-in-requires-2 c κs = search needs
+
+judge-set-requires : tie.Need-judge-set-requires
+judge-set-requires c κs = search needs
+
+returns-3 : tie.Need-returns-3
+returns-3 c = search (needs, set-fields)
+
+shared-slice-read-judge-lone : tie.Need-shared-slice-read-judge-lone
+shared-slice-read-judge-lone c = search needs
+
+shared-slice-read-judge-lone-2 : tie.Need-shared-slice-read-judge-lone-2
+shared-slice-read-judge-lone-2 c = search needs
+
+set-in-requires-3 : tie.Need-set-in-requires-3
+set-in-requires-3 c κs = search needs
+
+judge-lone-requires : tie.Need-judge-lone-requires
+judge-lone-requires c κs = search needs
+
+returns-4 : tie.Need-returns-4
+returns-4 c = search (needs, lone-fields)
+
+pub judge-fields-spec : {M : Type 1} → statement M
+judge-fields-spec =
+    tie.close
+    (tie.spec
+    shared-slice-read-sum
+    shared-slice-read-sum-2
+    shared-slice-read-sum-3
+    sum-requires
+    returns
+    shared-slice-read-kind
+    uses-second-requires
+    shared-slice-read-judge-pair
+    shared-slice-read-judge-pair-2
+    set-in-requires
+    judge-pair-requires
+    returns-2
+    uses-set-requires
+    shared-slice-read-judge-set
+    shared-slice-read-judge-set-2
+    set-in-requires-2
+    judge-set-requires
+    returns-3
+    shared-slice-read-judge-lone
+    shared-slice-read-judge-lone-2
+    set-in-requires-3
+    judge-lone-requires
+    returns-4)

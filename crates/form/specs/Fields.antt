@@ -1,0 +1,20 @@
+-- Refusals 3 to 5 by what a kind uses, beside the three bytes that none uses: server i, server j, the set m. Assumes nothing.
+use Prim.Native.Nat.{ℕ}
+use mathlib.Core.Bool.{not, _&&_}
+use mathlib.Core.List.{List, [], _∷_}
+use lib.Dec.{eqb}
+use Rattle.members.specs.Members.{within}
+use Rattle.algorithm.specs.Actions.{Refusal, refuse}
+use Rattle.algorithm.specs.Refusals.{known}
+
+-- i and j
+abbrev pub pairRefusals : ℕ → ℕ → ℕ → ℕ → List Refusal
+pairRefusals n i j m = refuse 3 (not (eqb m 0)) ∷ refuse 4 (not (known n i && known n j)) ∷ []
+
+-- i and the set
+abbrev pub setRefusals : ℕ → ℕ → ℕ → ℕ → List Refusal
+setRefusals n i j m = refuse 3 (not (eqb j 0)) ∷ refuse 4 (not (known n i)) ∷ refuse 5 (not (within m n)) ∷ []
+
+-- i alone
+abbrev pub loneRefusals : ℕ → ℕ → ℕ → ℕ → List Refusal
+loneRefusals n i j m = refuse 3 (not (eqb j 0 && eqb m 0)) ∷ refuse 4 (not (known n i)) ∷ []

@@ -1,0 +1,3 @@
+-- What is said against the form of an action.
+pub mod Refused
+pub mod Fields

@@ -1,2 +1,0 @@
--- What the judges promise.
-pub mod Refused
