@@ -4,9 +4,9 @@ ghost use Rattle.engine.specs.Engine.{Ready, Stepped, Played, AllRefused
 use crate::pieces::lesser;
 use crate::pieces::piece_count;
 use crate::pieces::piece_end;
+use act::act;
 use algorithm::Reply;
 use algorithm::number;
-use doers::act;
 use form::judge_form;
 use judges::action::judge_action;
 use table::rows::count_of;

@@ -1,10 +1,10 @@
--- `doers::act` meets its contract. Assumes nothing.
+-- `act::act` meets its contract. Assumes nothing.
 use native.Mathlib.Omega.{arith}
 use borrow.Author.Needs.{needs}
 use Rattle.algorithm.specs.Refusals.{after}
-use Rattle.doers.proofs.ReadyLaws.{sized, has-byte, no-other, first-within, second-within, elect-below, elect-within, reconfigure-below, write-room, fetch-room, roll-back-some, commit-some, did, did-by}
-use Rattle.doers.proofs.act.Statement.{statement}
-use Rattle.doers.proofs.act.Tie as tie
+use Rattle.act.proofs.ReadyLaws.{sized, has-byte, no-other, first-within, second-within, elect-below, elect-within, reconfigure-below, write-room, fetch-room, roll-back-some, commit-some, did, did-by}
+use Rattle.act.proofs.act.Statement.{statement}
+use Rattle.act.proofs.act.Tie as tie
 
 shared-slice-read-kind : tie.Need-shared-slice-read-kind
 shared-slice-read-kind c = search (needs, has-byte)
