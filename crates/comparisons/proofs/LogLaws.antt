@@ -21,9 +21,9 @@ held-nowhere l p v e = rw e
 pub held-at : (l : Log) (p v n x : ℕ) → (p ≡ 0 → ⊥) → n ≡ length l → x ≡ termAt l p → (leb p n && eqb x v) ≡ held l p v
 held-at l p v n x some e f = rw (e, f, le-leb 1 p (omega arith))
 
--- beside another answer, and at the position and the term that were read
-pub holds-both : (l : Log) (p v q w : ℕ) (x y a : Bool) → x ≡ a → p ≡ q → v ≡ w → y ≡ held l p v → (x && y) ≡ (a && held l q w)
-holds-both l p v q w x y a e f g h = rw (e, h, f, g)
+-- beside another answer, and for a term that was read
+pub holds-both : (l : Log) (p v w : ℕ) (x y a : Bool) → x ≡ a → v ≡ w → y ≡ held l p v → (x && y) ≡ (a && held l p w)
+holds-both l p v w x y a e f h = rw (e, h, f)
 
 pub joins-empty : (l m : Log) (p : ℕ) → p ≡ length l → p ≡ 0 → true ≡ joins l m
 joins-empty l m p e z = rw (eq-eqb (length l) 0 (sym e ∙ z))

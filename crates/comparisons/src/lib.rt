@@ -5,7 +5,7 @@ ghost use Prim.Native.Nat.{_≤_};
 ghost use lib.Dec.{ltb, eqb};
 ghost use Rattle.algorithm.specs.Table.{server};
 ghost use Rattle.algorithm.specs.Comparisons.{held, prefix};
-ghost use Rattle.algorithm.specs.Actions.{largerTerm, newerConfig, logAhead, sameConfig, sameTerm, holdsLast, joins as joinsOf};
+ghost use Rattle.algorithm.specs.Actions.{largerTerm, newerConfig, logAhead, sameConfig, sameTerm, joins as joinsOf};
 ghost use Rattle.table.specs.Layout.{tableIn};
 ghost use Rattle.table.specs.Slice.{Held, Within};
 use algorithm::Position;
@@ -89,14 +89,15 @@ pub fn holds(t: &[u8], s: usize, p: Position, term: Term) -> bool
     (p.0 <= length_of(t, s).0) & (entry_of(t, s, p).0 == term.0)
 }
 
-// Server s has the term of server i, and its last entry.
-pub fn holds_last(t: &[u8], i: usize, s: usize) -> bool
+// Server s has the term of server i, and an entry of it at a position.
+pub fn supports(t: &[u8], i: usize, s: usize, p: Position) -> bool
     requires { ⌜ Held (now t) ⌝ }
     requires { ⌜ Within (now t) i ⌝ }
     requires { ⌜ Within (now t) s ⌝ }
-    ensures { λ r. ⌜ r ≡ holdsLast (tableIn (now (t .entry))) i s ⌝ }
+    requires { ⌜ p .0 ≤ 64 ⌝ }
+    ensures { λ r. ⌜ r ≡ (sameTerm (tableIn (now (t .entry))) i s && held (server (tableIn (now (t .entry))) s .log) (p .0) (server (tableIn (now (t .entry))) i .term)) ⌝ }
 {
-    same_term(t, i, s) & holds(t, s, length_of(t, i), term_of(t, i))
+    same_term(t, i, s) & holds(t, s, p, term_of(t, i))
 }
 
 // The log of server i is empty, or its last entry is that of server j at that position.

@@ -3,24 +3,26 @@ ghost use mathlib.Core.Path.{_≡_};
 ghost use mathlib.Core.Bool.{false};
 ghost use lib.Dec.{eqb};
 ghost use lib.ListN.{drop};
-ghost use lib.Bits.{bitAnd};
-ghost use Rattle.members.specs.Members.{majority, oneApart, mask};
-ghost use Rattle.algorithm.specs.Table.{count, server, ceiling};
+ghost use Rattle.members.specs.Members.{majority, oneApart};
+ghost use Rattle.algorithm.specs.Table.{server, ceiling};
 ghost use Rattle.algorithm.specs.Actions.{electRefusals, sameTerm, p1, reconfigureRefusals, commitRefusals};
 ghost use Rattle.algorithm.specs.Refusals.{first};
 ghost use Rattle.table.specs.Layout.{tableIn};
 ghost use Rattle.table.specs.Slice.{Held, Within};
 ghost use Rattle.form.specs.Refused.{holdsIn};
+ghost use Rattle.questions.specs.Questions.{passing};
 use crate::roles::PRIMARY;
 use crate::roles::lacks_role;
 use algorithm::CEILING;
+use algorithm::POSITIONS;
 use members::is_majority;
 use members::is_member;
 use members::is_one_apart;
 use questions::marks::holding;
-use questions::marks::some_marked;
-use questions::servers::Question;
-use questions::servers::passing;
+use questions::marks::is_marked;
+use questions::shares::sharing;
+use questions::shares::supporters;
+use questions::votes::poll;
 use table::rows::last_of;
 use table::rows::length_of;
 use table::rows::mark_of;
@@ -68,16 +70,14 @@ pub fn judge_elect(t: &[u8], i: usize, q: u16) -> u8
     if !(is_majority_of(t, i, q) & is_member(i as u8, q)) {
         return 7;
     }
-    let larger = 0 < passing(t, Question::LargerTerm, i, q);
-    if larger {
+    let o = poll(t, i, q);
+    if o.larger {
         return 8;
     }
-    let newer = 0 < passing(t, Question::NewerConfig, i, q);
-    if newer {
+    if o.newer {
         return 9;
     }
-    let ahead = 0 < passing(t, Question::LogAhead, i, q);
-    if ahead {
+    if o.ahead {
         return 10;
     }
     if is_last_term(t, i) {
@@ -90,10 +90,10 @@ pub fn judge_elect(t: &[u8], i: usize, q: u16) -> u8
 fn is_safe(t: &[u8], i: usize, same: u16) -> bool
     requires { ⌜ Held (now t) ⌝ }
     requires { ⌜ Within (now t) i ⌝ }
-    requires { ⌜ same ≡ bitAnd (server (tableIn (now t)) i .config .set) (mask (count (tableIn (now t))) (sameTerm (tableIn (now t)) i)) ⌝ }
+    requires { ⌜ same ≡ passing (tableIn (now t)) (sameTerm (tableIn (now t)) i) (server (tableIn (now t)) i .config .set) ⌝ }
     ensures { λ r. ⌜ r ≡ p1 (tableIn (now (t .entry))) i ⌝ }
 {
-    if some_marked(t, i) {
+    if is_marked(t, i, 0, POSITIONS) {
         return is_majority_of(t, i, holding(t, i, same));
     }
     false
@@ -106,14 +106,14 @@ fn judge_majorities(t: &[u8], i: usize) -> u8
     ensures { λ r. ⌜ r ≡ first (drop 4 (reconfigureRefusals (tableIn (now (t .entry))) i 0)) ⌝ }
 {
     let set = set_of(t, i);
-    if !is_majority(passing(t, Question::SameConfig, i, set), set) {
+    let o = sharing(t, i, set);
+    if !is_majority(o.config, set) {
         return 14;
     }
-    let same = passing(t, Question::SameTerm, i, set);
-    if !is_majority(same, set) {
+    if !is_majority(o.term, set) {
         return 15;
     }
-    if !is_safe(t, i, same) {
+    if !is_safe(t, i, o.term) {
         return 16;
     }
     0
@@ -173,7 +173,7 @@ pub fn judge_commit(t: &[u8], i: usize, q: u16) -> u8
     if lacks_entry(t, i) {
         return 22;
     }
-    let held = passing(t, Question::HoldsLast, i, q) == q;
+    let held = supporters(t, i, q, length_of(t, i)) == q;
     if !held {
         return 23;
     }

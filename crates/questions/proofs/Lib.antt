@@ -1,4 +1,5 @@
 -- The laws of questions.
 pub mod AnswerLaws
+pub mod LoopLaws
 pub mod MarkLaws
 pub mod ServerLaws

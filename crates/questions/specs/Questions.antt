@@ -1,28 +1,30 @@
--- The questions asked of the servers of a set: each is a test of the algorithm. Assumes nothing.
-use Prim.Native.Nat.{ℕ, _≤_}
-use mathlib.Core.Bool.{Bool}
-use Rattle.algorithm.specs.Table.{Table, server}
+-- What is asked of the members of a set, beside server i: each is a test of the algorithm. Assumes nothing.
+use Prim.Native.Nat.{ℕ}
+use mathlib.Core.Path.{_≡_}
+use mathlib.Core.Bool.{Bool, _&&_}
+use lib.Bits.{bitAnd}
+use Rattle.members.specs.Members.{mask, somePass}
+use Rattle.algorithm.specs.Table.{Table, count, server}
 use Rattle.algorithm.specs.Comparisons.{held}
-use Rattle.algorithm.specs.Actions.{largerTerm, newerConfig, logAhead, sameConfig, sameTerm, holdsLast}
-use Rattle.questions.specs.declared.servers.Question.{Question}
-use Rattle.questions.specs.declared.servers.Question.the-variants.{LargerTerm, NewerConfig, LogAhead, SameConfig, SameTerm, HoldsLast, Holds}
+use Rattle.algorithm.specs.Actions.{largerTerm, newerConfig, logAhead, sameConfig, sameTerm}
+use Rattle.questions.specs.declared.votes.Objections.{Objections}
+use Rattle.questions.specs.declared.shares.Shares.{Shares}
 
--- the answer of server s, beside server i
-abbrev pub asked : Question → Table → ℕ → ℕ → Bool
-asked LargerTerm = largerTerm
-asked NewerConfig = newerConfig
-asked LogAhead = logAhead
-asked SameConfig = sameConfig
-asked SameTerm = sameTerm
-asked HoldsLast = holdsLast
-asked (Holds p v) = λ t i s. held (server t s .log) (p .0) (v .0)
+-- those of q that pass
+abbrev pub passing : Table → (ℕ → Bool) → ℕ → ℕ
+passing t f q = bitAnd q (mask (count t) f)
 
--- a position that a question names is one that a log has
-abbrev pub Askable : Question → Type 0
-Askable (Holds p v) = p .0 ≤ 64
-Askable LargerTerm = Unit {0}
-Askable NewerConfig = Unit {0}
-Askable LogAhead = Unit {0}
-Askable SameConfig = Unit {0}
-Askable SameTerm = Unit {0}
-Askable HoldsLast = Unit {0}
+-- server s has i's term, and an entry of it at position p
+abbrev pub supportsAt : Table → ℕ → ℕ → ℕ → Bool
+supportsAt t i p s = sameTerm t i s && held (server t s .log) p (server t i .term)
+
+-- what the members of q have against i's election
+pub record Objected (t : Table) (i q : ℕ) (o : Objections) : Type 0 where
+  pub larger : o .larger ≡ somePass (count t) (largerTerm t i) q
+  pub newer : o .newer ≡ somePass (count t) (newerConfig t i) q
+  pub ahead : o .ahead ≡ somePass (count t) (logAhead t i) q
+
+-- the members of q that have i's configuration, and those that have its term
+pub record Shared (t : Table) (i q : ℕ) (o : Shares) : Type 0 where
+  pub config : o .config ≡ passing t (sameConfig t i) q
+  pub term : o .term ≡ passing t (sameTerm t i) q

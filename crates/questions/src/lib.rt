@@ -1,3 +1,4 @@
-// What is asked of every server of a set: the members that pass a question, and those that hold what is marked.
+// What is asked of the members of a set beside server i. Each loop looks at a server once, and at members alone.
 pub mod marks;
-pub mod servers;
+pub mod shares;
+pub mod votes;

@@ -1,12 +1,13 @@
 -- `judges::sets::is_safe` meets its contract. Assumes nothing.
 use borrow.Author.Needs.{needs}
 use Rattle.questions.proofs.AnswerLaws.{and-then, and-not}
+use Rattle.questions.proofs.MarkLaws.{marked-any}
 use Rattle.judges.proofs.SetLaws.{most-told}
 use Rattle.judges.proofs.sets.is_safe.Statement.{statement}
 use Rattle.judges.proofs.sets.is_safe.Tie as tie
 
-some-marked-requires : tie.Need-some-marked-requires
-some-marked-requires c κs = search needs
+is-marked-requires : tie.Need-is-marked-requires
+is-marked-requires c κs = search needs
 
 holding-requires : tie.Need-holding-requires
 holding-requires c κs = search needs
@@ -15,12 +16,12 @@ is-majority-of-requires : tie.Need-is-majority-of-requires
 is-majority-of-requires c κs = search needs
 
 returns : tie.Need-returns
-returns c = search (needs, and-then, most-told)
+returns c = search (needs, and-then, most-told, marked-any)
 
 returns-2 : tie.Need-returns-2
-returns-2 c = search (needs, and-not)
+returns-2 c = search (needs, and-not, marked-any)
 
 pub is-safe-spec : {M : Type 1} → statement M
 is-safe-spec =
     tie.close
-    (tie.spec some-marked-requires holding-requires is-majority-of-requires returns returns-2)
+    (tie.spec is-marked-requires holding-requires is-majority-of-requires returns returns-2)

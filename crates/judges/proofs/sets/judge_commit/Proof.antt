@@ -22,8 +22,11 @@ lacks-entry-requires c κs = search needs
 returns-3 : tie.Need-returns-3
 returns-3 c = search weighing depth 9
 
-passing-requires : tie.Need-passing-requires
-passing-requires c κs = search needs
+length-of-requires : tie.Need-length-of-requires
+length-of-requires c κs = search needs
+
+supporters-requires : tie.Need-supporters-requires
+supporters-requires c κs = search needs
 
 returns-4 : tie.Need-returns-4
 returns-4 c = search weighing depth 9
@@ -47,7 +50,8 @@ judge-commit-spec =
     returns-2
     lacks-entry-requires
     returns-3
-    passing-requires
+    length-of-requires
+    supporters-requires
     returns-4
     is-marked-otherwise-requires
     returns-5

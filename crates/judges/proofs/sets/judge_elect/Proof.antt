@@ -1,6 +1,6 @@
 -- `judges::sets::judge_elect` meets its contract. Assumes nothing.
 use borrow.Author.Needs.{needs}
-use Rattle.judges.proofs.SetLaws.{weighing}
+use Rattle.form.proofs.RefusalLaws.{judging}
 use Rattle.judges.proofs.sets.judge_elect.Statement.{statement}
 use Rattle.judges.proofs.sets.judge_elect.Tie as tie
 
@@ -14,34 +14,28 @@ is-member-requires : tie.Need-is-member-requires
 is-member-requires c κs = search needs
 
 returns : tie.Need-returns
-returns c = search weighing depth 9
+returns c = search judging depth 9
 
-passing-requires : tie.Need-passing-requires
-passing-requires c κs = search needs
+poll-requires : tie.Need-poll-requires
+poll-requires c κs = search needs
 
 returns-2 : tie.Need-returns-2
-returns-2 c = search weighing depth 9
-
-passing-requires-2 : tie.Need-passing-requires-2
-passing-requires-2 c κs = search needs
+returns-2 c = search judging depth 9
 
 returns-3 : tie.Need-returns-3
-returns-3 c = search weighing depth 9
-
-passing-requires-3 : tie.Need-passing-requires-3
-passing-requires-3 c κs = search needs
+returns-3 c = search judging depth 9
 
 returns-4 : tie.Need-returns-4
-returns-4 c = search weighing depth 9
+returns-4 c = search judging depth 9
 
 is-last-term-requires : tie.Need-is-last-term-requires
 is-last-term-requires c κs = search needs
 
 returns-5 : tie.Need-returns-5
-returns-5 c = search weighing depth 9
+returns-5 c = search judging depth 9
 
 returns-6 : tie.Need-returns-6
-returns-6 c = search weighing depth 9
+returns-6 c = search judging depth 9
 
 pub judge-elect-spec : {M : Type 1} → statement M
 judge-elect-spec =
@@ -51,11 +45,9 @@ judge-elect-spec =
     cast-is-member
     is-member-requires
     returns
-    passing-requires
+    poll-requires
     returns-2
-    passing-requires-2
     returns-3
-    passing-requires-3
     returns-4
     is-last-term-requires
     returns-5

@@ -7,17 +7,14 @@ use Rattle.judges.proofs.sets.judge_majorities.Tie as tie
 set-of-requires : tie.Need-set-of-requires
 set-of-requires c κs = search needs
 
-passing-requires : tie.Need-passing-requires
-passing-requires c κs = search needs
+sharing-requires : tie.Need-sharing-requires
+sharing-requires c κs = search needs
 
 is-majority-requires : tie.Need-is-majority-requires
 is-majority-requires c κs = search needs
 
 returns : tie.Need-returns
 returns c = search weighing depth 9
-
-passing-requires-2 : tie.Need-passing-requires-2
-passing-requires-2 c κs = search needs
 
 is-majority-requires-2 : tie.Need-is-majority-requires-2
 is-majority-requires-2 c κs = search needs
@@ -39,10 +36,9 @@ judge-majorities-spec =
     tie.close
     (tie.spec
     set-of-requires
-    passing-requires
+    sharing-requires
     is-majority-requires
     returns
-    passing-requires-2
     is-majority-requires-2
     returns-2
     is-safe-requires

@@ -1,24 +1,58 @@
--- `questions::marks::narrowed` meets its contract. Assumes nothing.
+-- `questions::marks::narrowed` meets its contract. The loop's invariant: m is narrowed at the first k positions. Assumes nothing.
+use Prim.Native.Nat.{_-_, _≤_}
+use mathlib.Core.Path.{_≡_}
 use borrow.Author.Needs.{needs}
-use Rattle.questions.proofs.MarkLaws.{narrowed-at, narrowed-not}
+use Rattle.table.specs.Layout.{tableIn}
+use Rattle.questions.specs.Marks.{narrowedPast}
+use Rattle.questions.proofs.MarkLaws.{past-unmarked, past-none, past-next, past-all}
 use Rattle.questions.proofs.marks.narrowed.Statement.{statement}
 use Rattle.questions.proofs.marks.narrowed.Tie as tie
 
-term-of-requires : tie.Need-term-of-requires
-term-of-requires c κs = search needs
+abbrev Inv-loop : tie.InvT-loop
+Inv-loop t i q from m₀ k₀ m k = (k ≤ 8) × (m ≡ narrowedPast from k (tableIn t) i q)
 
-mark-of-requires : tie.Need-mark-of-requires
-mark-of-requires c κs = search needs
+abbrev μ-loop : tie.MeasureT-loop
+μ-loop t i q from m₀ k₀ m k = 8 - k
 
-passing-requires : tie.Need-passing-requires
-passing-requires c κs = search needs
+is-marked-requires : tie.Need-is-marked-requires Inv-loop μ-loop
+is-marked-requires c κs = search needs
 
-returns : tie.Need-returns
-returns c = search (needs, narrowed-at)
+returns : tie.Need-returns Inv-loop μ-loop
+returns c = search (needs, past-unmarked)
 
-returns-2 : tie.Need-returns-2
-returns-2 c = search (needs, narrowed-not)
+loop-holds : tie.Need-loop-holds Inv-loop μ-loop
+loop-holds c = search (needs, past-none)
+
+add-k : tie.Need-add-k Inv-loop μ-loop
+add-k c = search needs
+
+add-t10 : tie.Need-add-t10 Inv-loop μ-loop
+add-t10 c = search needs
+
+narrowed-at-requires : tie.Need-narrowed-at-requires Inv-loop μ-loop
+narrowed-at-requires c κs = search needs
+
+loop-less : tie.Need-loop-less Inv-loop μ-loop
+loop-less c = search needs
+
+loop-again : tie.Need-loop-again Inv-loop μ-loop
+loop-again c = search (needs, past-next)
+
+returns-2 : tie.Need-returns-2 Inv-loop μ-loop
+returns-2 c = search (needs, past-all)
 
 pub narrowed-spec : {M : Type 1} → statement M
 narrowed-spec =
-    tie.close (tie.spec term-of-requires mark-of-requires passing-requires returns returns-2)
+    tie.close
+    (tie.spec
+    Inv-loop
+    μ-loop
+    is-marked-requires
+    returns
+    loop-holds
+    add-k
+    add-t10
+    narrowed-at-requires
+    loop-less
+    loop-again
+    returns-2)

@@ -1,0 +1,56 @@
+-- `questions::marks::is_marked` meets its contract. The loop's invariant: `some` tells it of the first k positions. Assumes nothing.
+use Prim.Native.Nat.{_-_, _≤_}
+use mathlib.Core.Path.{_≡_}
+use borrow.Author.Needs.{needs}
+use Rattle.algorithm.specs.Table.{server}
+use Rattle.table.specs.Layout.{tableIn}
+use Rattle.questions.specs.Marks.{markedPast}
+use Rattle.questions.proofs.MarkLaws.{marked-none, marked-next, marked-all}
+use Rattle.questions.proofs.marks.is_marked.Statement.{statement}
+use Rattle.questions.proofs.marks.is_marked.Tie as tie
+
+abbrev Inv-loop : tie.InvT-loop
+Inv-loop t i from n term some₀ k₀ some k =
+    (k ≤ n) × (term ≡ server (tableIn t) i .term) × (some ≡ markedPast from k (tableIn t) (server (tableIn t) i .term))
+
+abbrev μ-loop : tie.MeasureT-loop
+μ-loop t i from n term some₀ k₀ some k = n - k
+
+term-of-requires : tie.Need-term-of-requires Inv-loop μ-loop
+term-of-requires c κs = search needs
+
+loop-holds : tie.Need-loop-holds Inv-loop μ-loop
+loop-holds c = search (needs, marked-none)
+
+add-k : tie.Need-add-k Inv-loop μ-loop
+add-k c = search needs
+
+add-t11 : tie.Need-add-t11 Inv-loop μ-loop
+add-t11 c = search needs
+
+mark-of-requires : tie.Need-mark-of-requires Inv-loop μ-loop
+mark-of-requires c κs = search needs
+
+loop-less : tie.Need-loop-less Inv-loop μ-loop
+loop-less c = search needs
+
+loop-again : tie.Need-loop-again Inv-loop μ-loop
+loop-again c = search (needs, marked-next)
+
+returns : tie.Need-returns Inv-loop μ-loop
+returns c = search (needs, marked-all)
+
+pub is-marked-spec : {M : Type 1} → statement M
+is-marked-spec =
+    tie.close
+    (tie.spec
+    Inv-loop
+    μ-loop
+    term-of-requires
+    loop-holds
+    add-k
+    add-t11
+    mark-of-requires
+    loop-less
+    loop-again
+    returns)

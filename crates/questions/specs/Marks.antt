@@ -1,0 +1,20 @@
+-- Marks of a server's term at the positions past one, and the servers that hold what is marked there. Assumes nothing.
+use Prim.Native.Nat.{ℕ, zero, suc, _+_}
+use mathlib.Core.Bool.{Bool, false, cond, _||_}
+use lib.Dec.{eqb}
+use Rattle.algorithm.specs.Table.{Table, server, mark}
+use Rattle.questions.specs.Questions.{passing, supportsAt}
+
+-- one of the positions o + 1 to o + k is marked with the term T
+unfoldable pub markedPast : ℕ → ℕ → Table → ℕ → Bool
+markedPast o zero t T = false
+markedPast o (suc k) t T = eqb (mark t (o + suc k)) T || markedPast o k t T
+
+-- those of q that support i at the position p, if that is marked with i's term
+abbrev pub narrowedAt : Table → ℕ → ℕ → ℕ → ℕ
+narrowedAt t i p q = cond (eqb (mark t p) (server t i .term)) (passing t (supportsAt t i p) q) q
+
+-- the same at each of the positions o + 1 to o + k
+unfoldable pub narrowedPast : ℕ → ℕ → Table → ℕ → ℕ → ℕ
+narrowedPast o zero t i q = q
+narrowedPast o (suc k) t i q = narrowedAt t i (o + suc k) (narrowedPast o k t i q)
