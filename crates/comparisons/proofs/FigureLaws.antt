@@ -1,7 +1,7 @@
 -- A comparison of figures that were read is that of the figures. Assumes nothing.
 use Prim.Native.Nat.{ℕ}
 use mathlib.Core.Path.{_≡_}
-use mathlib.Core.Bool.{Bool, _&&_, _||_}
+use mathlib.Core.Bool.{Bool, not, _&&_, _||_}
 use lib.Dec.{ltb, eqb}
 
 module _ (x y a b : ℕ) (e : x ≡ a) (f : y ≡ b) where
@@ -10,6 +10,9 @@ module _ (x y a b : ℕ) (e : x ≡ a) (f : y ≡ b) where
 
   pub equal-told : eqb x y ≡ eqb a b
   equal-told = rw (e, f)
+
+pub other-told : (x a y : ℕ) → x ≡ a → not (eqb x y) ≡ not (eqb a y)
+other-told x a y e = rw e
 
 pub both-told : (x y a b : Bool) → x ≡ a → y ≡ b → (x && y) ≡ (a && b)
 both-told x y a b e f = rw (e, f)

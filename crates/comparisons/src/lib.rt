@@ -1,6 +1,6 @@
-// One server beside another: terms, configurations and logs.
+// One server's role, and one server beside another: terms, configurations and logs.
 ghost use mathlib.Core.Path.{_≡_};
-ghost use mathlib.Core.Bool.{_&&_, _||_};
+ghost use mathlib.Core.Bool.{not, _&&_, _||_};
 ghost use Prim.Native.Nat.{_≤_};
 ghost use lib.Dec.{ltb, eqb};
 ghost use Rattle.algorithm.specs.Table.{server};
@@ -10,18 +10,38 @@ ghost use Rattle.table.specs.Layout.{tableIn};
 ghost use Rattle.table.specs.Slice.{Held, Within};
 use algorithm::Position;
 use algorithm::Term;
+use algorithm::Version;
 use table::rows::config_of;
 use table::rows::entry_of;
 use table::rows::last_of;
 use table::rows::length_of;
+use table::rows::role_of;
 use table::rows::term_of;
 use table::rows::version_of;
 
-// By the first figures, and by the second where the first are equal: how configurations compare, and logs.
-fn is_later(a: u32, v: u32, b: u32, w: u32) -> bool
-    ensures { λ r. ⌜ r ≡ (ltb b a || eqb a b && ltb w v) ⌝ }
+pub const SECONDARY: u32 = 0;
+
+pub const PRIMARY: u32 = 1;
+
+// Refusal 6: a role is not as the action says.
+pub fn lacks_role(t: &[u8], i: usize, role: u32) -> bool
+    requires { ⌜ Held (now t) ⌝ }
+    requires { ⌜ Within (now t) i ⌝ }
+    ensures { λ r. ⌜ r ≡ not (eqb (server (tableIn (now (t .entry))) i .role) role) ⌝ }
 {
-    (b < a) | (a == b) & (w < v)
+    role_of(t, i) != role
+}
+
+fn is_newer(a: Term, v: Version, b: Term, w: Version) -> bool
+    ensures { λ r. ⌜ r ≡ (ltb (b .0) (a .0) || eqb (a .0) (b .0) && ltb (w .0) (v .0)) ⌝ }
+{
+    (b.0 < a.0) | (a.0 == b.0) & (w.0 < v.0)
+}
+
+fn is_ahead(a: Term, p: Position, b: Term, q: Position) -> bool
+    ensures { λ r. ⌜ r ≡ (ltb (b .0) (a .0) || eqb (a .0) (b .0) && ltb (q .0) (p .0)) ⌝ }
+{
+    (b.0 < a.0) | (a.0 == b.0) & (q.0 < p.0)
 }
 
 pub fn larger_term(t: &[u8], i: usize, s: usize) -> bool
@@ -39,11 +59,11 @@ pub fn newer_config(t: &[u8], i: usize, s: usize) -> bool
     requires { ⌜ Within (now t) s ⌝ }
     ensures { λ r. ⌜ r ≡ newerConfig (tableIn (now (t .entry))) i s ⌝ }
 {
-    is_later(
-        config_of(t, s).0,
-        version_of(t, s).0,
-        config_of(t, i).0,
-        version_of(t, i).0,
+    is_newer(
+        config_of(t, s),
+        version_of(t, s),
+        config_of(t, i),
+        version_of(t, i),
     )
 }
 
@@ -53,9 +73,12 @@ pub fn log_ahead(t: &[u8], i: usize, s: usize) -> bool
     requires { ⌜ Within (now t) s ⌝ }
     ensures { λ r. ⌜ r ≡ logAhead (tableIn (now (t .entry))) i s ⌝ }
 {
-    let p = length_of(t, s).0 as u32;
-    let q = length_of(t, i).0 as u32;
-    is_later(last_of(t, s).0, p, last_of(t, i).0, q)
+    is_ahead(
+        last_of(t, s),
+        length_of(t, s),
+        last_of(t, i),
+        length_of(t, i),
+    )
 }
 
 pub fn same_config(t: &[u8], i: usize, s: usize) -> bool

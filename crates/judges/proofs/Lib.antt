@@ -1,4 +1,2 @@
--- The laws of the judges.
+-- The laws of the judge of an action.
 pub mod ActionLaws
-pub mod LogLaws
-pub mod SetLaws

@@ -7,15 +7,15 @@ ghost use Rattle.algorithm.specs.Table.{count};
 ghost use Rattle.algorithm.specs.Refusals.{formRefusals, usesSecond, kinds, actionOf, unknown, ownRefusals, first};
 ghost use Rattle.table.specs.Layout.{tableIn};
 ghost use Rattle.table.specs.Slice.{Held, Within};
-use crate::pairs::judge_fetch;
-use crate::pairs::judge_roll_back;
-use crate::pairs::judge_send;
-use crate::pairs::judge_spread;
-use crate::pairs::judge_write;
-use crate::sets::judge_commit;
-use crate::sets::judge_elect;
-use crate::sets::judge_reconfigure;
 use algorithm::set_in;
+use pair_judges::judge_fetch;
+use pair_judges::judge_roll_back;
+use pair_judges::judge_send;
+use pair_judges::judge_spread;
+use pair_judges::judge_write;
+use set_judges::judge_commit;
+use set_judges::judge_elect;
+use set_judges::judge_reconfigure;
 
 // Of a kind that does not use the second server, or the set, neither is looked at.
 fn judge_kind(t: &[u8], kind: u8, i: u8, j: u8, m: u16) -> u8

@@ -3,25 +3,19 @@ use Prim.Native.Nat.{ℕ, _+_, _*_, _/_, _%_, _^_, _≤_, _<_}
 use native.Mathlib.Nat.{zero-mul, zero-add}
 use native.Mathlib.Omega.{arith}
 use mathlib.Core.Path.{_≡_, refl, ap, _∙_}
-use mathlib.Core.Bool.{Bool, false, _||_}
+use mathlib.Core.Bool.{Bool}
 use Rattle.members.specs.Members.{one}
 use Rattle.algorithm.specs.Table.{Table, count}
 use Rattle.algorithm.specs.Actions.{largerTerm, newerConfig, logAhead, sameConfig, sameTerm}
 use Rattle.questions.specs.declared.votes.Objections.{Objections}
 use Rattle.questions.specs.declared.shares.Shares.{Shares}
 use Rattle.questions.specs.Questions.{Objected, Shared}
-use Rattle.questions.specs.Turns.{someNext, maskNext, Heard, Compared}
-use Rattle.questions.proofs.ServerLaws.{asked, unasked, Some, some-none, some-next, some-all, Passed, pass-none, pass-fits, pass-next, pass-all}
+use Rattle.questions.specs.Turns.{maskNext, Heard, Compared}
+use Rattle.questions.proofs.ServerLaws.{asked, unasked, Passed, pass-none, pass-fits, pass-next, pass-all}
 
 -- ---- one turn
 
 module _ (f : ℕ → Bool) (q k : ℕ) where
-  flag-in : (b a : Bool) → q / 2 ^ k % 2 ≡ 1 → a ≡ f (k + 1) → (a || b) ≡ someNext f q k b
-  flag-in b a e h = ap (λ (x : Bool). x || b) (asked k q a (f (k + 1)) e h)
-
-  flag-out : (b : Bool) → (q / 2 ^ k % 2 ≡ 1 → ⊥) → b ≡ someNext f q k b
-  flag-out b h = ap (λ (x : Bool). x || b) (unasked k q (f (k + 1)) h)
-
   mask-in : (m r : ℕ) (a : Bool) → q / 2 ^ k % 2 ≡ 1 → a ≡ f (k + 1) → r ≡ one a * 2 ^ k + m → r ≡ maskNext f q k m
   mask-in m r a e h g = g ∙ ap (λ (x : Bool). one x * 2 ^ k + m) (asked k q a (f (k + 1)) e h)
 
@@ -29,21 +23,22 @@ module _ (f : ℕ → Bool) (q k : ℕ) where
   mask-out m h = rw (← unasked k q (f (k + 1)) h, zero-mul, zero-add)
 
 module _ (t : Table) (i q k : ℕ) where
-  pub heard-in : (o : Objections) (a b c : Bool) → q / 2 ^ k % 2 ≡ 1 → a ≡ largerTerm t i (k + 1) → b ≡ newerConfig t i (k + 1) → c ≡ logAhead t i (k + 1)
-      → Heard t i q k o (record { larger = a || o .larger; newer = b || o .newer; ahead = c || o .ahead })
-  heard-in o a b c e f g h =
+  pub heard-in : (o : Objections) (a b c : Bool) (x y z : ℕ) → q / 2 ^ k % 2 ≡ 1 → a ≡ largerTerm t i (k + 1) → x ≡ one a * 2 ^ k + o .larger
+      → b ≡ newerConfig t i (k + 1) → y ≡ one b * 2 ^ k + o .newer → c ≡ logAhead t i (k + 1) → z ≡ one c * 2 ^ k + o .ahead
+      → Heard t i q k o (record { larger = x; newer = y; ahead = z })
+  heard-in o a b c x y z e f g h l m n =
       record {
-        larger = flag-in (largerTerm t i) q k (o .larger) a e f;
-        newer = flag-in (newerConfig t i) q k (o .newer) b e g;
-        ahead = flag-in (logAhead t i) q k (o .ahead) c e h;
+        larger = mask-in (largerTerm t i) q k (o .larger) x a e f g;
+        newer = mask-in (newerConfig t i) q k (o .newer) y b e h l;
+        ahead = mask-in (logAhead t i) q k (o .ahead) z c e m n;
       }
 
   pub heard-out : (o : Objections) → (q / 2 ^ k % 2 ≡ 1 → ⊥) → Heard t i q k o o
   heard-out o h =
       record {
-        larger = flag-out (largerTerm t i) q k (o .larger) h;
-        newer = flag-out (newerConfig t i) q k (o .newer) h;
-        ahead = flag-out (logAhead t i) q k (o .ahead) h;
+        larger = mask-out (largerTerm t i) q k (o .larger) h;
+        newer = mask-out (newerConfig t i) q k (o .newer) h;
+        ahead = mask-out (logAhead t i) q k (o .ahead) h;
       }
 
   pub compared-in : (o : Shares) (a b : Bool) (x y : ℕ) → q / 2 ^ k % 2 ≡ 1 → a ≡ sameConfig t i (k + 1) → x ≡ one a * 2 ^ k + o .config
@@ -59,32 +54,41 @@ module _ (t : Table) (i q k : ℕ) where
 pub record Hearing (t : Table) (i q n k : ℕ) (o : Objections) : Type 0 where
   pub most : k ≤ n
   pub all : n ≡ count t
-  pub larger : Some (largerTerm t i) q k (o .larger)
-  pub newer : Some (newerConfig t i) q k (o .newer)
-  pub ahead : Some (logAhead t i) q k (o .ahead)
+  pub larger : Passed (largerTerm t i) q k (o .larger)
+  pub newer : Passed (newerConfig t i) q k (o .newer)
+  pub ahead : Passed (logAhead t i) q k (o .ahead)
 
 module _ (t : Table) (i q n : ℕ) where
-  pub hearing-none : n ≡ count t → Hearing t i q n 0 (record { larger = false; newer = false; ahead = false })
+  pub hearing-none : n ≡ count t → Hearing t i q n 0 (record { larger = 0; newer = 0; ahead = 0 })
   hearing-none e =
-      record { most = omega arith; all = e; larger = some-none (largerTerm t i) q; newer = some-none (newerConfig t i) q; ahead = some-none (logAhead t i) q }
+      record { most = omega arith; all = e; larger = pass-none (largerTerm t i) q; newer = pass-none (newerConfig t i) q; ahead = pass-none (logAhead t i) q }
 
   module _ (k : ℕ) (o : Objections) (h : Hearing t i q n k o) where
+    pub larger-fits : o .larger < 2 ^ k
+    larger-fits = pass-fits (largerTerm t i) q k (o .larger) (h .larger)
+
+    pub newer-fits : o .newer < 2 ^ k
+    newer-fits = pass-fits (newerConfig t i) q k (o .newer) (h .newer)
+
+    pub ahead-fits : o .ahead < 2 ^ k
+    ahead-fits = pass-fits (logAhead t i) q k (o .ahead) (h .ahead)
+
     pub hearing-next : (r : Objections) → k < n → Heard t i q k o r → Hearing t i q n (k + 1) r
     hearing-next r l e =
         record {
           most = omega arith;
           all = h .all;
-          larger = some-next (largerTerm t i) q k (o .larger) (r .larger) (h .larger) (e .larger);
-          newer = some-next (newerConfig t i) q k (o .newer) (r .newer) (h .newer) (e .newer);
-          ahead = some-next (logAhead t i) q k (o .ahead) (r .ahead) (h .ahead) (e .ahead);
+          larger = pass-next (largerTerm t i) q k (o .larger) (r .larger) _ (h .larger) refl (e .larger);
+          newer = pass-next (newerConfig t i) q k (o .newer) (r .newer) _ (h .newer) refl (e .newer);
+          ahead = pass-next (logAhead t i) q k (o .ahead) (r .ahead) _ (h .ahead) refl (e .ahead);
         }
 
     pub hearing-all : n ≤ k → Objected t i q o
     hearing-all l =
         record {
-          larger = some-all (largerTerm t i) q k n (count t) (o .larger) (h .most) l (h .all) (h .larger);
-          newer = some-all (newerConfig t i) q k n (count t) (o .newer) (h .most) l (h .all) (h .newer);
-          ahead = some-all (logAhead t i) q k n (count t) (o .ahead) (h .most) l (h .all) (h .ahead);
+          larger = pass-all (largerTerm t i) q k n (o .larger) (count t) (h .most) l (h .all) (h .larger);
+          newer = pass-all (newerConfig t i) q k n (o .newer) (count t) (h .most) l (h .all) (h .newer);
+          ahead = pass-all (logAhead t i) q k n (o .ahead) (count t) (h .most) l (h .all) (h .ahead);
         }
 
 pub record Comparing (t : Table) (i q n k : ℕ) (o : Shares) : Type 0 where

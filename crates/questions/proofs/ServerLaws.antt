@@ -1,17 +1,13 @@
 -- Laws of the loops over the servers. Assumes nothing.
 use Prim.Native.Nat.{ℕ, suc, _+_, _*_, _/_, _%_, _^_, _≤_, _<_}
-use native.Mathlib.Nat.{zero-mul, zero-add}
 use native.Mathlib.Numerals.{add-one}
 use native.Mathlib.Omega.{arith}
 use mathlib.Core.Path.{_≡_, refl, sym, ap, _∙_}
-use mathlib.Core.Bool.{Bool, true, false, _&&_, _||_}
-use lib.Dec.{ltb}
-use lib.Pow.{pow-pos}
+use mathlib.Core.Bool.{Bool, false, _&&_}
 use lib.Bits.{bitAnd}
-use borrow.Author.Tests.{eq-eqb, ne-eqb, lt-ltb}
-use Rattle.members.specs.Members.{bit, member, one, mask, somePass}
+use borrow.Author.Tests.{eq-eqb, ne-eqb}
+use Rattle.members.specs.Members.{bit, member, one, mask}
 use Rattle.members.proofs.Masks.{mask-next, mask-lt, and-passing}
-use Rattle.questions.specs.Turns.{someNext, maskNext}
 
 -- ---- one server
 
@@ -31,33 +27,10 @@ module _ (f : ℕ → Bool) (q k : ℕ) where
   turn : (b : Bool) → b ≡ (bit k q && f (k + 1)) → these (k + 1) ≡ one b * 2 ^ k + these k
   turn b e = mask-next k (λ s. member s q && f s) ∙ rw (e, ap f (add-one k))
 
-  -- ---- whether some member passes
-
-  pub record Some (b : Bool) : Type 0 where
-    pub is : b ≡ ltb 0 (these k)
-
-  -- ---- the members that pass
-
   pub record Passed (m : ℕ) : Type 0 where
     pub are : m ≡ these k
 
 module _ (f : ℕ → Bool) (q : ℕ) where
-  pub some-none : Some f q 0 false
-  unfolding mask
-  some-none = record { is = refl }
-
-  pub some-next : (k : ℕ) (b r : Bool) → Some f q k b → r ≡ someNext f q k b → Some f q (k + 1) r
-  some-next k b r h e = record { is = e ∙ rw (h .is) (go (bit k q && f (k + 1)) refl) }
-    where
-      go : (c : Bool) → c ≡ (bit k q && f (k + 1)) → (c || ltb 0 (these f q k k)) ≡ ltb 0 (these f q k (k + 1))
-      go true g = sym (ap (ltb 0) (turn f q k true g) ∙ lt-ltb 0 (1 * 2 ^ k + these f q k k) (omega (arith, pow-pos k)))
-      go false g =
-          let same : 0 * 2 ^ k + these f q k k ≡ these f q k k = rw (zero-mul, zero-add) in
-          sym (ap (ltb 0) (turn f q k false g ∙ same))
-
-  pub some-all : (k n c : ℕ) (b : Bool) → k ≤ n → n ≤ k → n ≡ c → Some f q k b → b ≡ somePass c f q
-  some-all k n c b l h e g = let all : k ≡ c = omega arith in g .is ∙ rw (all, and-passing c q f)
-
   pub pass-none : Passed f q 0 0
   unfolding mask
   pass-none = record { are = refl }

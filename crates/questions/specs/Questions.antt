@@ -3,7 +3,7 @@ use Prim.Native.Nat.{ℕ}
 use mathlib.Core.Path.{_≡_}
 use mathlib.Core.Bool.{Bool, _&&_}
 use lib.Bits.{bitAnd}
-use Rattle.members.specs.Members.{mask, somePass}
+use Rattle.members.specs.Members.{mask}
 use Rattle.algorithm.specs.Table.{Table, count, server}
 use Rattle.algorithm.specs.Comparisons.{held}
 use Rattle.algorithm.specs.Actions.{largerTerm, newerConfig, logAhead, sameConfig, sameTerm}
@@ -18,11 +18,11 @@ passing t f q = bitAnd q (mask (count t) f)
 abbrev pub supportsAt : Table → ℕ → ℕ → ℕ → Bool
 supportsAt t i p s = sameTerm t i s && held (server t s .log) p (server t i .term)
 
--- what the members of q have against i's election
+-- the members of q that have something against i's election
 pub record Objected (t : Table) (i q : ℕ) (o : Objections) : Type 0 where
-  pub larger : o .larger ≡ somePass (count t) (largerTerm t i) q
-  pub newer : o .newer ≡ somePass (count t) (newerConfig t i) q
-  pub ahead : o .ahead ≡ somePass (count t) (logAhead t i) q
+  pub larger : o .larger ≡ passing t (largerTerm t i) q
+  pub newer : o .newer ≡ passing t (newerConfig t i) q
+  pub ahead : o .ahead ≡ passing t (logAhead t i) q
 
 -- the members of q that have i's configuration, and those that have its term
 pub record Shared (t : Table) (i q : ℕ) (o : Shares) : Type 0 where

@@ -1,25 +1,22 @@
 -- What one turn of a loop over the servers adds: server k + 1 is asked, if it is in q. Assumes nothing.
 use Prim.Native.Nat.{ℕ, _+_, _*_, _^_}
 use mathlib.Core.Path.{_≡_}
-use mathlib.Core.Bool.{Bool, _&&_, _||_}
+use mathlib.Core.Bool.{Bool, _&&_}
 use Rattle.members.specs.Members.{bit, one}
 use Rattle.algorithm.specs.Table.{Table}
 use Rattle.algorithm.specs.Actions.{largerTerm, newerConfig, logAhead, sameConfig, sameTerm}
 use Rattle.questions.specs.declared.votes.Objections.{Objections}
 use Rattle.questions.specs.declared.shares.Shares.{Shares}
 
--- whether some member passed, and the members that did, once it has answered
-abbrev pub someNext : (ℕ → Bool) → ℕ → ℕ → Bool → Bool
-someNext f q k b = (bit k q && f (k + 1)) || b
-
+-- the members that passed, once it has answered
 abbrev pub maskNext : (ℕ → Bool) → ℕ → ℕ → ℕ → ℕ
 maskNext f q k m = one (bit k q && f (k + 1)) * 2 ^ k + m
 
 -- o has become r: of the objections to i's election
 pub record Heard (t : Table) (i q k : ℕ) (o r : Objections) : Type 0 where
-  pub larger : r .larger ≡ someNext (largerTerm t i) q k (o .larger)
-  pub newer : r .newer ≡ someNext (newerConfig t i) q k (o .newer)
-  pub ahead : r .ahead ≡ someNext (logAhead t i) q k (o .ahead)
+  pub larger : r .larger ≡ maskNext (largerTerm t i) q k (o .larger)
+  pub newer : r .newer ≡ maskNext (newerConfig t i) q k (o .newer)
+  pub ahead : r .ahead ≡ maskNext (logAhead t i) q k (o .ahead)
 
 -- of those that share what i has
 pub record Compared (t : Table) (i q k : ℕ) (o r : Shares) : Type 0 where

@@ -1,6 +1,6 @@
 // What the members of a set have against an election.
 ghost use mathlib.Core.Path.{_≡_};
-ghost use Prim.Native.Nat.{_+_};
+ghost use Prim.Native.Nat.{_+_, _<_, _^_};
 ghost use Rattle.table.specs.Layout.{tableIn};
 ghost use Rattle.table.specs.Slice.{Held, Within};
 ghost use Rattle.questions.specs.Questions.{Objected};
@@ -8,13 +8,14 @@ ghost use Rattle.questions.specs.Turns.{Heard};
 use comparisons::larger_term;
 use comparisons::log_ahead;
 use comparisons::newer_config;
+use members::with_next;
 use table::rows::count_of;
 
-// Some member has a larger term, a newer configuration, a log ahead.
+// Those with a larger term, those with a newer configuration, those whose log is ahead.
 pub struct Objections {
-    pub larger: bool,
-    pub newer: bool,
-    pub ahead: bool,
+    pub larger: u16,
+    pub newer: u16,
+    pub ahead: u16,
 }
 
 // What server k + 1, bit k of q, has to add. The branch stands here and not in the loop, whose invariant would have to speak of both ways.
@@ -22,14 +23,15 @@ fn hear(o: Objections, t: &[u8], i: usize, q: u16, k: usize) -> Objections
     requires { ⌜ Held (now t) ⌝ }
     requires { ⌜ Within (now t) i ⌝ }
     requires { ⌜ Within (now t) (k + 1) ⌝ }
+    requires { ⌜ (o .larger < 2 ^ k) × (o .newer < 2 ^ k) × (o .ahead < 2 ^ k) ⌝ }
     ensures { λ r. ⌜ Heard (tableIn (now (t .entry))) i q k o r ⌝ }
 {
     if (q >> k) % 2 == 1 {
         let s = k + 1;
         return Objections {
-            larger: larger_term(t, i, s) | o.larger,
-            newer: newer_config(t, i, s) | o.newer,
-            ahead: log_ahead(t, i, s) | o.ahead,
+            larger: with_next(o.larger, k, larger_term(t, i, s)),
+            newer: with_next(o.newer, k, newer_config(t, i, s)),
+            ahead: with_next(o.ahead, k, log_ahead(t, i, s)),
         };
     }
     o
@@ -42,9 +44,9 @@ pub fn poll(t: &[u8], i: usize, q: u16) -> Objections
 {
     let n = count_of(t) as usize;
     let mut o = Objections {
-        larger: false,
-        newer: false,
-        ahead: false,
+        larger: 0,
+        newer: 0,
+        ahead: 0,
     };
     let mut k: usize = 0;
     while k < n {

@@ -16,8 +16,8 @@ config-of-requires-2 c κs = search needs
 version-of-requires-2 : tie.Need-version-of-requires-2
 version-of-requires-2 c κs = search needs
 
-is-later-requires : tie.Need-is-later-requires
-is-later-requires c κs = search needs
+is-newer-requires : tie.Need-is-newer-requires
+is-newer-requires c κs = search needs
 
 returns : tie.Need-returns
 returns c = search (needs, later-told)
@@ -30,5 +30,5 @@ newer-config-spec =
     version-of-requires
     config-of-requires-2
     version-of-requires-2
-    is-later-requires
+    is-newer-requires
     returns)

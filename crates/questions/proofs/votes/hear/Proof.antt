@@ -16,11 +16,20 @@ add-s c = search needs
 larger-term-requires : tie.Need-larger-term-requires
 larger-term-requires c κs = search needs
 
+with-next-requires : tie.Need-with-next-requires
+with-next-requires c κs = search needs
+
 newer-config-requires : tie.Need-newer-config-requires
 newer-config-requires c κs = search needs
 
+with-next-requires-2 : tie.Need-with-next-requires-2
+with-next-requires-2 c κs = search needs
+
 log-ahead-requires : tie.Need-log-ahead-requires
 log-ahead-requires c κs = search needs
+
+with-next-requires-3 : tie.Need-with-next-requires-3
+with-next-requires-3 c κs = search needs
 
 returns : tie.Need-returns
 returns c = search (needs, heard-in)
@@ -36,7 +45,10 @@ hear-spec =
     shr-if1
     add-s
     larger-term-requires
+    with-next-requires
     newer-config-requires
+    with-next-requires-2
     log-ahead-requires
+    with-next-requires-3
     returns
     returns-2)

@@ -1,8 +1,8 @@
--- `questions::votes::poll` meets its contract. The loop's invariant: o tells it of the servers 1 to k. Assumes nothing.
+-- `questions::votes::poll` meets its contract. The loop's invariant: o has those of the servers 1 to k. Assumes nothing.
 use Prim.Native.Nat.{_-_}
 use borrow.Author.Needs.{needs}
 use Rattle.table.specs.Layout.{tableIn}
-use Rattle.questions.proofs.LoopLaws.{Hearing, hearing-none, hearing-next, hearing-all}
+use Rattle.questions.proofs.LoopLaws.{Hearing, hearing-none, larger-fits, newer-fits, ahead-fits, hearing-next, hearing-all}
 use Rattle.questions.proofs.votes.poll.Statement.{statement}
 use Rattle.questions.proofs.votes.poll.Tie as tie
 
@@ -22,7 +22,8 @@ loop-holds : tie.Need-loop-holds Inv-loop μ-loop
 loop-holds c = search (needs, hearing-none)
 
 hear-requires : tie.Need-hear-requires Inv-loop μ-loop
-hear-requires c κs = search needs
+hear-requires c κs =
+    (search needs, (search needs, (search needs, (search (needs, larger-fits), search (needs, newer-fits), search (needs, ahead-fits)))))
 
 add-k : tie.Need-add-k Inv-loop μ-loop
 add-k c = search needs

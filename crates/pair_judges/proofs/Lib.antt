@@ -1,0 +1,2 @@
+-- The laws of the judges of one server or two.
+pub mod LogLaws

@@ -1,0 +1,117 @@
+// Send, spread, write, fetch and roll back: the kinds that look at one server or two.
+ghost use mathlib.Core.Path.{_≡_};
+ghost use Rattle.algorithm.specs.Actions.{sendRefusals, spreadRefusals, writeRefusals, fetchRefusals, rollBackRefusals};
+ghost use Rattle.algorithm.specs.Refusals.{first};
+ghost use Rattle.table.specs.Layout.{tableIn};
+ghost use Rattle.table.specs.Slice.{Held, Within};
+ghost use Rattle.form.specs.Refused.{holdsIn};
+use algorithm::POSITIONS;
+use comparisons::PRIMARY;
+use comparisons::SECONDARY;
+use comparisons::is_prefix;
+use comparisons::joins;
+use comparisons::lacks_role;
+use comparisons::larger_term;
+use comparisons::newer_config;
+use table::rows::last_of;
+use table::rows::length_of;
+
+pub fn judge_send(t: &[u8], i: usize, j: usize) -> u8
+    requires { ⌜ Held (now t) ⌝ }
+    requires { ⌜ Within (now t) i ⌝ }
+    requires { ⌜ Within (now t) j ⌝ }
+    ensures { λ r. ⌜ r ≡ first (sendRefusals (tableIn (now (t .entry))) i j) ⌝ }
+{
+    if lacks_role(t, i, PRIMARY) | lacks_role(t, j, SECONDARY) {
+        return 6;
+    }
+    if !newer_config(t, j, i) {
+        return 17;
+    }
+    0
+}
+
+pub fn judge_spread(t: &[u8], i: usize, j: usize) -> u8
+    requires { ⌜ Held (now t) ⌝ }
+    requires { ⌜ Within (now t) i ⌝ }
+    requires { ⌜ Within (now t) j ⌝ }
+    ensures { λ r. ⌜ r ≡ first (spreadRefusals (tableIn (now (t .entry))) i j) ⌝ }
+{
+    if !larger_term(t, j, i) {
+        return 18;
+    }
+    0
+}
+
+fn is_full(t: &[u8], i: usize) -> bool
+    requires { ⌜ Held (now t) ⌝ }
+    requires { ⌜ Within (now t) i ⌝ }
+    ensures { λ r. ⌜ r ≡ holdsIn 19 (writeRefusals (tableIn (now (t .entry))) i) ⌝ }
+{
+    POSITIONS <= length_of(t, i).0
+}
+
+pub fn judge_write(t: &[u8], i: usize) -> u8
+    requires { ⌜ Held (now t) ⌝ }
+    requires { ⌜ Within (now t) i ⌝ }
+    ensures { λ r. ⌜ r ≡ first (writeRefusals (tableIn (now (t .entry))) i) ⌝ }
+{
+    if lacks_role(t, i, PRIMARY) {
+        return 6;
+    }
+    if is_full(t, i) {
+        return 19;
+    }
+    0
+}
+
+fn cannot_fetch(t: &[u8], i: usize, j: usize) -> bool
+    requires { ⌜ Held (now t) ⌝ }
+    requires { ⌜ Within (now t) i ⌝ }
+    requires { ⌜ Within (now t) j ⌝ }
+    ensures { λ r. ⌜ r ≡ holdsIn 20 (fetchRefusals (tableIn (now (t .entry))) i j) ⌝ }
+{
+    !((length_of(t, i).0 < length_of(t, j).0) & joins(t, i, j))
+}
+
+pub fn judge_fetch(t: &[u8], i: usize, j: usize) -> u8
+    requires { ⌜ Held (now t) ⌝ }
+    requires { ⌜ Within (now t) i ⌝ }
+    requires { ⌜ Within (now t) j ⌝ }
+    ensures { λ r. ⌜ r ≡ first (fetchRefusals (tableIn (now (t .entry))) i j) ⌝ }
+{
+    if lacks_role(t, i, SECONDARY) {
+        return 6;
+    }
+    if cannot_fetch(t, i, j) {
+        return 20;
+    }
+    0
+}
+
+fn cannot_roll_back(t: &[u8], i: usize, j: usize) -> bool
+    requires { ⌜ Held (now t) ⌝ }
+    requires { ⌜ Within (now t) i ⌝ }
+    requires { ⌜ Within (now t) j ⌝ }
+    ensures { λ r. ⌜ r ≡ holdsIn 21 (rollBackRefusals (tableIn (now (t .entry))) i j) ⌝ }
+{
+    if last_of(t, i).0 < last_of(t, j).0 {
+        return is_prefix(t, i, j);
+    }
+    true
+}
+
+pub fn judge_roll_back(t: &[u8], i: usize, j: usize) -> u8
+    requires { ⌜ Held (now t) ⌝ }
+    requires { ⌜ Within (now t) i ⌝ }
+    requires { ⌜ Within (now t) j ⌝ }
+    ensures { λ r. ⌜ r ≡ first (rollBackRefusals (tableIn (now (t .entry))) i j) ⌝ }
+{
+    if lacks_role(t, i, SECONDARY) {
+        return 6;
+    }
+    if cannot_roll_back(t, i, j) {
+        return 21;
+    }
+    0
+}

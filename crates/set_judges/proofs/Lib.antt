@@ -1,0 +1,2 @@
+-- The laws of the judges of sets.
+pub mod SetLaws

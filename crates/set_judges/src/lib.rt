@@ -1,0 +1,187 @@
+// Elect, reconfigure and commit: the kinds that look at the servers of a set.
+ghost use mathlib.Core.Path.{_≡_};
+ghost use mathlib.Core.Bool.{false};
+ghost use lib.Dec.{eqb};
+ghost use lib.ListN.{drop};
+ghost use Rattle.members.specs.Members.{majority, oneApart};
+ghost use Rattle.algorithm.specs.Table.{server, ceiling};
+ghost use Rattle.algorithm.specs.Actions.{electRefusals, sameTerm, p1, reconfigureRefusals, commitRefusals};
+ghost use Rattle.algorithm.specs.Refusals.{first};
+ghost use Rattle.table.specs.Layout.{tableIn};
+ghost use Rattle.table.specs.Slice.{Held, Within};
+ghost use Rattle.form.specs.Refused.{holdsIn};
+ghost use Rattle.questions.specs.Questions.{passing};
+use algorithm::CEILING;
+use algorithm::POSITIONS;
+use comparisons::PRIMARY;
+use comparisons::lacks_role;
+use members::is_majority;
+use members::is_member;
+use members::is_one_apart;
+use questions::marks::holding;
+use questions::marks::is_marked;
+use questions::shares::sharing;
+use questions::shares::supporters;
+use questions::votes::poll;
+use table::rows::last_of;
+use table::rows::length_of;
+use table::rows::mark_of;
+use table::rows::set_of;
+use table::rows::term_of;
+use table::rows::version_of;
+
+fn is_majority_of(t: &[u8], i: usize, q: u16) -> bool
+    requires { ⌜ Held (now t) ⌝ }
+    requires { ⌜ Within (now t) i ⌝ }
+    ensures { λ r. ⌜ r ≡ majority q (server (tableIn (now (t .entry))) i .config .set) ⌝ }
+{
+    is_majority(q, set_of(t, i))
+}
+
+fn is_one_away(t: &[u8], i: usize, m: u16) -> bool
+    requires { ⌜ Held (now t) ⌝ }
+    requires { ⌜ Within (now t) i ⌝ }
+    ensures { λ r. ⌜ r ≡ oneApart (server (tableIn (now (t .entry))) i .config .set) m ⌝ }
+{
+    is_one_apart(set_of(t, i), m)
+}
+
+fn is_last_term(t: &[u8], i: usize) -> bool
+    requires { ⌜ Held (now t) ⌝ }
+    requires { ⌜ Within (now t) i ⌝ }
+    ensures { λ r. ⌜ r ≡ eqb (server (tableIn (now (t .entry))) i .term) ceiling ⌝ }
+{
+    term_of(t, i).0 == CEILING
+}
+
+fn is_last_version(t: &[u8], i: usize) -> bool
+    requires { ⌜ Held (now t) ⌝ }
+    requires { ⌜ Within (now t) i ⌝ }
+    ensures { λ r. ⌜ r ≡ eqb (server (tableIn (now (t .entry))) i .config .version) ceiling ⌝ }
+{
+    version_of(t, i).0 == CEILING
+}
+
+pub fn judge_elect(t: &[u8], i: usize, q: u16) -> u8
+    requires { ⌜ Held (now t) ⌝ }
+    requires { ⌜ Within (now t) i ⌝ }
+    ensures { λ r. ⌜ r ≡ first (electRefusals (tableIn (now (t .entry))) i q) ⌝ }
+{
+    if !(is_majority_of(t, i, q) & is_member(i as u8, q)) {
+        return 7;
+    }
+    let o = poll(t, i, q);
+    let larger = 0 < o.larger;
+    if larger {
+        return 8;
+    }
+    let newer = 0 < o.newer;
+    if newer {
+        return 9;
+    }
+    let ahead = 0 < o.ahead;
+    if ahead {
+        return 10;
+    }
+    if is_last_term(t, i) {
+        return 11;
+    }
+    0
+}
+
+// P1, where `same` are the members of the set that have the term of server i.
+fn is_safe(t: &[u8], i: usize, same: u16) -> bool
+    requires { ⌜ Held (now t) ⌝ }
+    requires { ⌜ Within (now t) i ⌝ }
+    requires { ⌜ same ≡ passing (tableIn (now t)) (sameTerm (tableIn (now t)) i) (server (tableIn (now t)) i .config .set) ⌝ }
+    ensures { λ r. ⌜ r ≡ p1 (tableIn (now (t .entry))) i ⌝ }
+{
+    if is_marked(t, i, 0, POSITIONS) {
+        return is_majority_of(t, i, holding(t, i, same));
+    }
+    false
+}
+
+// Refusals 14 to 16, whatever the set.
+fn judge_majorities(t: &[u8], i: usize) -> u8
+    requires { ⌜ Held (now t) ⌝ }
+    requires { ⌜ Within (now t) i ⌝ }
+    ensures { λ r. ⌜ r ≡ first (drop 4 (reconfigureRefusals (tableIn (now (t .entry))) i 0)) ⌝ }
+{
+    let set = set_of(t, i);
+    let o = sharing(t, i, set);
+    if !is_majority(o.config, set) {
+        return 14;
+    }
+    if !is_majority(o.term, set) {
+        return 15;
+    }
+    if !is_safe(t, i, o.term) {
+        return 16;
+    }
+    0
+}
+
+pub fn judge_reconfigure(t: &[u8], i: usize, m: u16) -> u8
+    requires { ⌜ Held (now t) ⌝ }
+    requires { ⌜ Within (now t) i ⌝ }
+    ensures { λ r. ⌜ r ≡ first (reconfigureRefusals (tableIn (now (t .entry))) i m) ⌝ }
+{
+    if lacks_role(t, i, PRIMARY) {
+        return 6;
+    }
+    if is_last_version(t, i) {
+        return 11;
+    }
+    if !is_member(i as u8, m) {
+        return 12;
+    }
+    if !is_one_away(t, i, m) {
+        return 13;
+    }
+    judge_majorities(t, i)
+}
+
+// Refusal 22, whatever the set.
+fn lacks_entry(t: &[u8], i: usize) -> bool
+    requires { ⌜ Held (now t) ⌝ }
+    requires { ⌜ Within (now t) i ⌝ }
+    ensures { λ r. ⌜ r ≡ holdsIn 22 (commitRefusals (tableIn (now (t .entry))) i 0) ⌝ }
+{
+    (length_of(t, i).0 == 0) | (last_of(t, i).0 != term_of(t, i).0)
+}
+
+// Refusal 24, whatever the set: it is asked where 22 does not hold, so the log has an entry.
+fn is_marked_otherwise(t: &[u8], i: usize) -> bool
+    requires { ⌜ Held (now t) ⌝ }
+    requires { ⌜ Within (now t) i ⌝ }
+    requires { ⌜ holdsIn 22 (commitRefusals (tableIn (now t)) i 0) ≡ false ⌝ }
+    ensures { λ r. ⌜ r ≡ holdsIn 24 (commitRefusals (tableIn (now (t .entry))) i 0) ⌝ }
+{
+    let m = mark_of(t, length_of(t, i));
+    !((m.0 == 0) | (m.0 == term_of(t, i).0))
+}
+
+pub fn judge_commit(t: &[u8], i: usize, q: u16) -> u8
+    requires { ⌜ Held (now t) ⌝ }
+    requires { ⌜ Within (now t) i ⌝ }
+    ensures { λ r. ⌜ r ≡ first (commitRefusals (tableIn (now (t .entry))) i q) ⌝ }
+{
+    if lacks_role(t, i, PRIMARY) {
+        return 6;
+    }
+    if !is_majority_of(t, i, q) {
+        return 7;
+    }
+    if lacks_entry(t, i) {
+        return 22;
+    }
+    let held = supporters(t, i, q, length_of(t, i)) == q;
+    if !held {
+        return 23;
+    }
+    if is_marked_otherwise(t, i) {
+        return 24;
+    }
+    0
+}
