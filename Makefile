@@ -37,6 +37,7 @@ bench: archive
 	@$(MAKE) --no-print-directory -s -C tests count ENGINE=$(abspath $(ARCHIVE))
 
 archive:
+	@tests/need
 	@mkdir -p target
 	@rt staticlib kyntulei >target/staticlib.log 2>&1 || { cat target/staticlib.log; exit 1; }
 
