@@ -3,3 +3,4 @@ pub mod ReadyLaws
 pub mod PieceLaws
 pub mod StepLaws
 pub mod RunLaws
+pub mod Unique

@@ -9,6 +9,7 @@ use contents::is_counted;
 use contents::is_laid_out;
 use contents::is_opened;
 use contents::stop_of;
+use table::BYTES;
 
 mod fill;
 
@@ -17,7 +18,7 @@ mod fill;
 fn judge(image: &[u8], table: &[u8]) -> u32
     ensures { λ r. ⌜ r ≡ readReply (now (image .entry)) (now (table .entry)) ⌝ }
 {
-    if table.len() != 4760 {
+    if table.len() != BYTES {
         return 1;
     }
     if image.len() < 8 {

@@ -8,23 +8,22 @@ use engine::run;
 use engine::step;
 use fresh::fill_fresh;
 use image::read;
+use table::BYTES;
 use whole::is_whole;
 use whole::set_within;
-
-const TABLE_BYTES: usize = 4760;
 
 #[no_mangle]
 pub extern "C" fn kyntulei_table_bytes() -> usize
     ensures { λ r. ⌜ r ≡ 4760 ⌝ }
 {
-    TABLE_BYTES
+    BYTES
 }
 
 #[no_mangle]
 pub extern "C" fn kyntulei_fresh(table: &mut [u8], n: u32, set: u32) -> u32
     ensures { λ r. ⌜ FreshAnswer (now (table .entry)) n set r (now (table .exit)) ⌝ }
 {
-    if table.len() != TABLE_BYTES {
+    if table.len() != BYTES {
         return 1;
     }
     if n == 0 {

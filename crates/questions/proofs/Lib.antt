@@ -3,3 +3,4 @@ pub mod AnswerLaws
 pub mod LoopLaws
 pub mod MarkLaws
 pub mod ServerLaws
+pub mod Unique

@@ -1,5 +1,4 @@
 -- The laws of lines in a buffer.
 pub mod LineLaws
 pub mod MarkLaws
-pub mod Unique
 pub mod Worked

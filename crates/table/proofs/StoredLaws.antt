@@ -40,3 +40,7 @@ module _ (t : Table) (h : broken t ≡ false) where
 pub held-stored : (b : List ℕ) (t : Table) → ((i : ℕ) → getD b i 0 < 256) → Holds b t → b ≡ stored t
 unfolding stored
 held-stored b t f h = sym (bytes-words b 1190 (h .sized) f) ∙ ap bytes (h .laid)
+
+-- so two slices that hold one table are equal: what the functions promise of a slice leaves no freedom
+pub holds-unique : (b b' : List ℕ) (t : Table) → ((i : ℕ) → getD b i 0 < 256) → ((i : ℕ) → getD b' i 0 < 256) → Holds b t → Holds b' t → b ≡ b'
+holds-unique b b' t f g h k = held-stored b t f h ∙ sym (held-stored b' t g k)

@@ -2,3 +2,4 @@
 pub mod WroteLaws
 pub mod DecimalLaws
 pub mod FieldLaws
+pub mod Unique
