@@ -17,7 +17,8 @@ pub const CEILING: u32 = 1_000_000_000;
 // How many positions a log, and the marks, have room for.
 pub const POSITIONS: u8 = 64;
 
-fn pair(low: u8, high: u8) -> u16
+// A number of two bytes, the low one first.
+pub fn pair(low: u8, high: u8) -> u16
     ensures { λ r. ⌜ r ≡ low + 256 * high ⌝ }
 {
     low as u16 + 256 * (high as u16)

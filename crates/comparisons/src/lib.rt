@@ -8,6 +8,7 @@ ghost use Rattle.algorithm.specs.Comparisons.{held, prefix};
 ghost use Rattle.algorithm.specs.Actions.{largerTerm, newerConfig, logAhead, sameConfig, sameTerm, joins as joinsOf};
 ghost use Rattle.table.specs.Layout.{tableIn};
 ghost use Rattle.table.specs.Slice.{Held, Within};
+ghost use Rattle.comparisons.specs.Support.{supportsAt};
 use algorithm::Position;
 use algorithm::Term;
 use algorithm::Version;
@@ -118,7 +119,7 @@ pub fn supports(t: &[u8], i: usize, s: usize, p: Position) -> bool
     requires { ⌜ Within (now t) i ⌝ }
     requires { ⌜ Within (now t) s ⌝ }
     requires { ⌜ p .0 ≤ 64 ⌝ }
-    ensures { λ r. ⌜ r ≡ (sameTerm (tableIn (now (t .entry))) i s && held (server (tableIn (now (t .entry))) s .log) (p .0) (server (tableIn (now (t .entry))) i .term)) ⌝ }
+    ensures { λ r. ⌜ r ≡ supportsAt (tableIn (now (t .entry))) i (p .0) s ⌝ }
 {
     same_term(t, i, s) & holds(t, s, p, term_of(t, i))
 }

@@ -3,23 +3,17 @@ ghost use mathlib.Core.Path.{_≡_};
 ghost use Prim.Native.Nat.{_+_, _*_, _≤_, _<_};
 ghost use lib.ListN.{length};
 ghost use Rattle.contents.specs.Contents.{halfAt, opened, countIn, counted, offset, size, stop, start, fixed, mayHave, laid, laidOut};
-
-// Casts stand on parameters: a byte that comes as one is known to be a byte, and an element of a slice is not.
-fn joined(low: u8, high: u8) -> u16
-    ensures { λ r. ⌜ r ≡ low + 256 * high ⌝ }
-{
-    low as u16 + 256 * (high as u16)
-}
+use algorithm::pair;
 
 // The number of two bytes at k.
 pub fn half(b: &[u8], k: usize) -> u16
     requires { ⌜ k + 2 ≤ length (now b) ⌝ }
     ensures { λ r. ⌜ r ≡ halfAt (now (b .entry)) k ⌝ }
 {
-    joined(b[k], b[k + 1])
+    pair(b[k], b[k + 1])
 }
 
-// For casts, as above.
+// A cast stands on a parameter: a byte that comes as one is known to be a byte, and an element of a slice is not.
 pub fn wide(x: u8) -> u32
     ensures { λ r. ⌜ (r ≡ x) × (r < 256) ⌝ }
 {

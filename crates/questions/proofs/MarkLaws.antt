@@ -11,7 +11,8 @@ use Rattle.members.proofs.Masks.{and-both}
 use Rattle.algorithm.specs.Table.{Table, count, server, mark}
 use Rattle.algorithm.specs.Comparisons.{held}
 use Rattle.algorithm.specs.Actions.{someMarked, holdsMarked, sameTerm, holdsCommitted}
-use Rattle.questions.specs.Questions.{passing, supportsAt}
+use Rattle.comparisons.specs.Support.{supportsAt}
+use Rattle.questions.specs.Questions.{passing}
 use Rattle.questions.specs.Marks.{markedPast, narrowedAt, narrowedPast}
 
 -- ---- some position is marked

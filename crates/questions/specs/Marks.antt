@@ -3,7 +3,8 @@ use Prim.Native.Nat.{ℕ, zero, suc, _+_}
 use mathlib.Core.Bool.{Bool, false, cond, _||_}
 use lib.Dec.{eqb}
 use Rattle.algorithm.specs.Table.{Table, server, mark}
-use Rattle.questions.specs.Questions.{passing, supportsAt}
+use Rattle.comparisons.specs.Support.{supportsAt}
+use Rattle.questions.specs.Questions.{passing}
 
 -- one of the positions o + 1 to o + k is marked with the term T
 unfoldable pub markedPast : ℕ → ℕ → Table → ℕ → Bool

@@ -1,11 +1,10 @@
 -- What is asked of the members of a set, beside server i: each is a test of the algorithm. Assumes nothing.
 use Prim.Native.Nat.{ℕ}
 use mathlib.Core.Path.{_≡_}
-use mathlib.Core.Bool.{Bool, _&&_}
+use mathlib.Core.Bool.{Bool}
 use lib.Bits.{bitAnd}
 use Rattle.members.specs.Members.{mask}
-use Rattle.algorithm.specs.Table.{Table, count, server}
-use Rattle.algorithm.specs.Comparisons.{held}
+use Rattle.algorithm.specs.Table.{Table, count}
 use Rattle.algorithm.specs.Actions.{largerTerm, newerConfig, logAhead, sameConfig, sameTerm}
 use Rattle.questions.specs.declared.votes.Objections.{Objections}
 use Rattle.questions.specs.declared.shares.Shares.{Shares}
@@ -13,10 +12,6 @@ use Rattle.questions.specs.declared.shares.Shares.{Shares}
 -- those of q that pass
 abbrev pub passing : Table → (ℕ → Bool) → ℕ → ℕ
 passing t f q = bitAnd q (mask (count t) f)
-
--- server s has i's term, and an entry of it at position p
-abbrev pub supportsAt : Table → ℕ → ℕ → ℕ → Bool
-supportsAt t i p s = sameTerm t i s && held (server t s .log) p (server t i .term)
 
 -- the members of q that have something against i's election
 pub record Objected (t : Table) (i q : ℕ) (o : Objections) : Type 0 where

@@ -12,7 +12,8 @@ use Rattle.algorithm.specs.Table.{Log, Table, count, server, mark}
 use Rattle.algorithm.specs.Comparisons.{last}
 use Rattle.algorithm.specs.Actions.{holdsLast}
 use Rattle.form.proofs.RefusalLaws.{judging}
-use Rattle.questions.specs.Questions.{passing, supportsAt}
+use Rattle.comparisons.specs.Support.{supportsAt}
+use Rattle.questions.specs.Questions.{passing}
 
 -- some member of q passes
 pub some-told : (x q k : ℕ) → x ≡ bitAnd q k → ltb 0 x ≡ ltb 0 (bitAnd q k)

@@ -4,7 +4,7 @@ use mathlib.Core.Path.{_≡_}
 use borrow.Author.Needs.{needs}
 use Rattle.algorithm.specs.Table.{count}
 use Rattle.table.specs.Layout.{tableIn}
-use Rattle.questions.specs.Questions.{supportsAt}
+use Rattle.comparisons.specs.Support.{supportsAt}
 use Rattle.questions.proofs.ServerLaws.{Passed, pass-none, pass-fits, pass-next, pass-all}
 use Rattle.questions.proofs.shares.supporters.Statement.{statement}
 use Rattle.questions.proofs.shares.supporters.Tie as tie
