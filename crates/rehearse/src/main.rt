@@ -1,21 +1,19 @@
 // Rehearses a plan. Standard input is a table's image and the actions behind it; standard output tells the reply to each action and the table
 // that is left. What is printed, and the table, are proved in `report`, `image` and `engine`; here they are put together.
-ghost use mathlib.Core.Path.{_≡_};
 ghost use Prim.Native.Nat.{_≤_};
 ghost use lib.ListN.{length};
 ghost use Rattle.engine.specs.Engine.{Ready};
 ghost use Rattle.table.specs.Slice.{Held};
-use crate::say::say_bad_site;
-use crate::say::say_cut;
-use crate::say::say_replies;
-use crate::say::say_table;
-use crate::say::say_too_long;
 use engine::run;
 use image::read;
 use libc::STDIN_FILENO;
+use libc::STDOUT_FILENO;
+use say::say_bad_site;
+use say::say_cut;
+use say::say_replies;
+use say::say_table;
+use say::say_too_long;
 use table::BYTES;
-
-mod say;
 
 // The longest input, and the most actions that such an input has.
 const MOST: usize = 65536;
@@ -44,7 +42,7 @@ fn rehearse(input: &[u8])
     let mut end: u64 = 0;
     let number = read(input, &mut t, &mut end);
     if number != 0 {
-        say_bad_site(number);
+        say_bad_site(STDOUT_FILENO, number);
         return;
     }
     let at = end as usize;
@@ -56,7 +54,7 @@ fn main() {
     let mut input = [0u8; MOST + 1];
     let n = io::read_full(STDIN_FILENO, &mut input);
     if MOST < n {
-        say_too_long();
+        say_too_long(STDOUT_FILENO);
         return;
     }
     rehearse(&input[..n]);

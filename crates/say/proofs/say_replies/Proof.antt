@@ -1,8 +1,8 @@
--- `rehearse::say::say_replies` meets its contract. Assumes nothing.
+-- `say::say_replies` meets its contract. Assumes nothing.
 use Prim.Native.Nat.{_-_, _≤_}
 use borrow.Author.Needs.{needs}
-use Rattle.rehearse.proofs.say.say_replies.Statement.{statement}
-use Rattle.rehearse.proofs.say.say_replies.Tie as tie
+use Rattle.say.proofs.say_replies.Statement.{statement}
+use Rattle.say.proofs.say_replies.Tie as tie
 
 abbrev Inv-loop : tie.InvT-loop
 Inv-loop replies n k₀ k = k ≤ n

@@ -1,5 +1,5 @@
-// Lines to standard output. A write that fails is not told: there is nowhere else to tell it.
-ghost use mathlib.Core.Path.{_≡_};
+// Lines said by the programs: to standard output, and where a caller says so elsewhere. What is written no contract can say, so these
+// promise only that they end. A write that fails is not told: there is nowhere else to tell it.
 ghost use Prim.Native.Nat.{_≤_};
 ghost use lib.ListN.{length};
 ghost use Rattle.table.specs.Slice.{Held};
@@ -15,16 +15,20 @@ use table::rows::Row;
 use table::rows::count_of;
 use table::rows::row_of;
 
-pub(crate) fn say_too_long() {
+pub fn say_too_long(fd: i32)
+    ensures { λ _. ⊤ₛ }
+{
     let mut line = [0u8; LINE_ROOM];
     let n = too_long_line(&mut line);
-    io::write_all(STDOUT_FILENO, &line[..n]);
+    io::write_all(fd, &line[..n]);
 }
 
-pub(crate) fn say_bad_site(number: u32) {
+pub fn say_bad_site(fd: i32, number: u32)
+    ensures { λ _. ⊤ₛ }
+{
     let mut line = [0u8; LINE_ROOM];
     let n = bad_site_line(&mut line, number);
-    io::write_all(STDOUT_FILENO, &line[..n]);
+    io::write_all(fd, &line[..n]);
 }
 
 fn say_reply(k: u32, r: u8) {
@@ -33,7 +37,9 @@ fn say_reply(k: u32, r: u8) {
     io::write_all(STDOUT_FILENO, &line[..n]);
 }
 
-pub(crate) fn say_cut(k: u32) {
+pub fn say_cut(k: u32)
+    ensures { λ _. ⊤ₛ }
+{
     let mut line = [0u8; LINE_ROOM];
     let n = cut_line(&mut line, k);
     io::write_all(STDOUT_FILENO, &line[..n]);
@@ -54,8 +60,9 @@ fn say_marks(t: &[u8])
 }
 
 // The first n replies, each under its action's number.
-pub(crate) fn say_replies(replies: &[u8], n: usize)
+pub fn say_replies(replies: &[u8], n: usize)
     requires { ⌜ (n ≤ length (now replies)) × (n ≤ 8192) ⌝ }
+    ensures { λ _. ⊤ₛ }
 {
     let mut k: usize = 0;
     while k < n {
@@ -64,8 +71,9 @@ pub(crate) fn say_replies(replies: &[u8], n: usize)
     }
 }
 
-pub(crate) fn say_table(t: &[u8])
+pub fn say_table(t: &[u8])
     requires { ⌜ Held (now t) ⌝ }
+    ensures { λ _. ⊤ₛ }
 {
     let n = count_of(t);
     let mut s: u8 = 0;

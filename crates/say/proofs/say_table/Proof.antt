@@ -1,8 +1,8 @@
--- `rehearse::say::say_table` meets its contract. Assumes nothing.
+-- `say::say_table` meets its contract. Assumes nothing.
 use Prim.Native.Nat.{_-_, _≤_}
 use borrow.Author.Needs.{needs}
-use Rattle.rehearse.proofs.say.say_table.Statement.{statement}
-use Rattle.rehearse.proofs.say.say_table.Tie as tie
+use Rattle.say.proofs.say_table.Statement.{statement}
+use Rattle.say.proofs.say_table.Tie as tie
 
 abbrev Inv-loop : tie.InvT-loop
 Inv-loop t n s₀ s = s ≤ n
