@@ -1,22 +1,23 @@
 # The commands of the project; `make help` lists them.
 
 ARCHIVE = target/staticlib/libkyntulei.a
-PROGRAM = target/bin/rehearse
+REHEARSE = target/bin/rehearse
+SAVE = target/bin/save
 COUNT = 2000
 
-.PHONY: help test demo soak c-tests rehearsals bench archive program
+.PHONY: help test demo soak c-tests rehearsals bench archive programs
 
 help:
 	@echo "make test       the gate: proves every crate from nothing, tries every must-fail edit, runs every test"
-	@echo "make demo       builds the program and rehearses one evening in front of you"
-	@echo "make soak       compares the program with the plain one on COUNT=$(COUNT) inputs drawn from SEED=1"
+	@echo "make demo       builds the programs and rehearses one evening in front of you"
+	@echo "make soak       compares the programs with the plain one on COUNT=$(COUNT) inputs drawn from SEED=1"
 	@echo "make c-tests    the tests in C alone, over the archive of the exported functions"
 	@echo "make bench      instructions an action, beside the engine in plain C"
 
 test:
 	@tests/gate
 
-demo: program
+demo: programs
 	@sed 's/^/    /' tests/sites/whole.txt
 	@echo
 	@echo 'tests/site < tests/sites/whole.txt | ./rehearse'
@@ -29,8 +30,8 @@ soak:
 c-tests: archive
 	@$(MAKE) --no-print-directory -C tests test ENGINE=$(abspath $(ARCHIVE))
 
-rehearsals: program
-	@$(MAKE) --no-print-directory -C tests rehearsals PROGRAM=$(abspath $(PROGRAM))
+rehearsals: programs
+	@$(MAKE) --no-print-directory -C tests rehearsals PROGRAM=$(abspath $(REHEARSE)) SAVE=$(abspath $(SAVE))
 
 bench: archive
 	@tests/need bench
@@ -41,7 +42,7 @@ archive:
 	@mkdir -p target
 	@rt staticlib kyntulei >target/staticlib.log 2>&1 || { cat target/staticlib.log; exit 1; }
 
-program:
+programs:
 	@tests/need
 	@mkdir -p target
-	@rt check rehearse >target/program.log 2>&1 || { cat target/program.log; exit 1; }
+	@rt check rehearse save >target/programs.log 2>&1 || { cat target/programs.log; exit 1; }

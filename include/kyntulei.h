@@ -17,8 +17,8 @@
  *                           words 6..69  the log's entries, each a term of 1 to 1,000,000,000; 0 past its end
  *   Rows past n are 0. Marks go up to 1,000,000,000. A slice of any other length or contents is a broken table.
  *
- * THE TABLE IMAGE is a table in fewer bytes, as a file carries it; kyntulei_read makes the slice of it. Numbers are low
- * byte first here, too.
+ * THE TABLE IMAGE is a table in fewer bytes, as a file carries it; kyntulei_read makes the slice of it, and
+ * kyntulei_write makes it of the slice. Numbers are low byte first here, too.
  *   Bytes 0..3              the letters SITE
  *   Byte 4                  n, 1 to 16
  *   Bytes 5..7              0
@@ -68,7 +68,7 @@
  *   22  commit: i's log is empty or ends in another term than i's own
  *   23  commit: somebody in the set is at another term or lacks i's last entry
  *   24  commit: a different term is marked at that position already
- * kyntulei_fresh has 32 beside these, and kyntulei_read 30 to 34. */
+ * kyntulei_fresh has 32 beside these, kyntulei_read 30 to 34, and kyntulei_write 35. */
 #ifndef KYNTULEI_H
 #define KYNTULEI_H
 
@@ -126,6 +126,17 @@ uint64_t kyntulei_run(uint8_t *table, size_t table_len, const uint8_t *actions, 
  *
  * `end` must point to a number of its own, even where 1 to 34 is expected. */
 uint32_t kyntulei_read(const uint8_t *image, size_t image_len, uint8_t *table, size_t table_len, uint64_t *end);
+
+/* Writes the image of `table` to the start of `buffer`, and sets *end to its length; the bytes of `buffer` from there on
+ * keep what they held. kyntulei_read makes the same table of it, and what kyntulei_read took as an image is written
+ * again byte for byte.
+ *
+ * Answers 0 when written. Otherwise neither `buffer` nor *end is written, and the answer is, asked in this order:
+ *    1  the table is broken, table_len other than kyntulei_table_bytes() included
+ *   35  buffer_len is less than the image's length; 4,684 bytes are enough for any table
+ *
+ * `end` must point to a number of its own, even where 1 or 35 is expected. */
+uint32_t kyntulei_write(const uint8_t *table, size_t table_len, uint8_t *buffer, size_t buffer_len, uint64_t *end);
 
 #ifdef __cplusplus
 }

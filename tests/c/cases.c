@@ -11,5 +11,6 @@ int main(void)
     check_images(tested_engine);
     check_bodies(tested_engine);
     check_damages(tested_engine);
+    check_writing(tested_engine);
     return close_checks(tested_engine->name);
 }

@@ -1,4 +1,4 @@
-/* The engines a test can drive, all behind the same five functions. */
+/* The engines a test can drive, all behind the same six functions. */
 #ifndef ENGINES_H
 #define ENGINES_H
 
@@ -13,6 +13,7 @@ struct engine {
     uint64_t (*run)(uint8_t *table, size_t table_len, const uint8_t *actions, size_t actions_len,
                     uint8_t *replies, size_t replies_len);
     uint32_t (*read)(const uint8_t *image, size_t image_len, uint8_t *table, size_t table_len, uint64_t *end);
+    uint32_t (*write)(const uint8_t *table, size_t table_len, uint8_t *buffer, size_t buffer_len, uint64_t *end);
 };
 
 extern const struct engine plain_engine;

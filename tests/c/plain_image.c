@@ -98,3 +98,18 @@ uint32_t plain_read(const uint8_t *image, size_t image_len, uint8_t *table, size
     *end = image_end;
     return TAKEN;
 }
+
+uint32_t plain_write(const uint8_t *table, size_t table_len, uint8_t *buffer, size_t buffer_len, uint64_t *end)
+{
+    if (!plain_is_whole(table, table_len)) {
+        return BROKEN_TABLE;
+    }
+    uint8_t image[MOST_IMAGE_BYTES];
+    size_t length = image_of(table, image);
+    if (buffer_len < length) {
+        return SHORT_BUFFER;
+    }
+    memcpy(buffer, image, length);
+    *end = length;
+    return TAKEN;
+}

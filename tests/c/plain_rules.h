@@ -36,7 +36,8 @@ enum reply {
     BAD_OPENING = 31,
     BAD_NUMBER_OF_SERVERS = 32,
     BAD_CONTENTS = 33,
-    BAD_FIELD = 34
+    BAD_FIELD = 34,
+    SHORT_BUFFER = 35
 };
 
 struct action {

@@ -56,5 +56,6 @@ void check_lengths(const struct engine *engine);
 void check_images(const struct engine *engine);
 void check_bodies(const struct engine *engine);
 void check_damages(const struct engine *engine);
+void check_writing(const struct engine *engine);
 
 #endif

@@ -1,6 +1,7 @@
 // The engine for the store's release harness: numbers and byte slices in, a number and filled slices out (include/kyntulei.h).
 ghost use mathlib.Core.Path.{_≡_};
 ghost use Rattle.image.specs.Reader.{ReadAnswer};
+ghost use Rattle.writer.specs.Writer.{WriteAnswer};
 ghost use Rattle.kyntulei.specs.Promise.{FreshAnswer, StepAnswer, RunAnswer};
 use algorithm::number;
 use engine::refuse_all;
@@ -11,6 +12,7 @@ use image::read;
 use table::BYTES;
 use whole::is_whole;
 use whole::set_within;
+use writer::write;
 
 #[no_mangle]
 pub extern "C" fn kyntulei_table_bytes() -> usize
@@ -69,4 +71,12 @@ pub extern "C" fn kyntulei_read(image: &[u8], table: &mut [u8], end: &mut u64) -
     ensures { λ r. ⌜ ReadAnswer (now (image .entry)) (now (table .entry)) (now (end .entry)) r (now (table .exit)) (now (end .exit)) ⌝ }
 {
     read(image, table, end)
+}
+
+// The image of a table, and where it ends in the buffer.
+#[no_mangle]
+pub extern "C" fn kyntulei_write(table: &[u8], buffer: &mut [u8], end: &mut u64) -> u32
+    ensures { λ r. ⌜ WriteAnswer (now (table .entry)) (now (buffer .entry)) (now (end .entry)) r (now (buffer .exit)) (now (end .exit)) ⌝ }
+{
+    write(table, buffer, end)
 }

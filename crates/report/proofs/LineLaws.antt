@@ -1,15 +1,16 @@
 -- What the parts of a line make when they are written one behind another. Assumes nothing.
-use Prim.Native.Nat.{ℕ, zero, suc}
+use Prim.Native.Nat.{ℕ, zero, suc, _≤_}
 use native.Mathlib.Omega.{arith}
-use mathlib.Core.Path.{_≡_, refl}
+use mathlib.Core.Path.{_≡_, refl, sym}
 use mathlib.Core.List.{List, _++_}
-use lib.ListN.{take}
+use lib.ListN.{length, take}
 use borrow.Author.Tests.{eq-eqb, ne-eqb}
+use Rattle.algorithm.specs.Table.{trimmed}
 use Rattle.table.specs.declared.rows.Row.{Row}
+use Rattle.marks.proofs.MarkLaws.{trimmed-take}
 use Rattle.texts.specs.Texts.{text, decimal, field, fields}
 use Rattle.report.specs.Lines.{reply, repliedLine, cutLine, badSiteLine, tooLongLine, letter, figures, shownRow, marksLine}
 use Rattle.texts.specs.Buffer.{Wrote, WroteShort, Filled}
-use Rattle.report.specs.Marks.{Through}
 use Rattle.texts.proofs.WroteLaws.{then, filled}
 
 -- ---- parts of a line
@@ -64,7 +65,7 @@ module _ (b b₁ b₂ b₃ : List ℕ) (c d e : ℕ) where
   unfolding shownRow
   row s a n f w = filled (then (then (n .wrote) (f .wrote)) w)
 
-  pub marks-shown : (ms : List ℕ) (n : ℕ) → Through ms n → Wrote b b₁ 0 (text "marks") c → WroteShort 704 b₁ b₂ c (fields (take n ms)) d
+  pub marks-shown : (ms : List ℕ) (n : ℕ) → (n ≡ length (trimmed ms)) × (n ≤ 64) → Wrote b b₁ 0 (text "marks") c → WroteShort 704 b₁ b₂ c (fields (take n ms)) d
       → Wrote b₂ b₃ d (text "\n") e → Filled b b₃ (marksLine ms) e
   unfolding marksLine
-  marks-shown ms n h v f w = rw (h .shown) (filled (then (then v (f .wrote)) w))
+  marks-shown ms n (h, _) v f w = rw (sym (trimmed-take ms), ← h) (filled (then (then v (f .wrote)) w))

@@ -7,7 +7,6 @@ ghost use Rattle.table.specs.Slice.{Held};
 ghost use Rattle.texts.specs.Texts.{text, field, fields};
 ghost use Rattle.report.specs.Lines.{reply, letter, figures};
 ghost use Rattle.texts.specs.Buffer.{WroteShort};
-ghost use Rattle.report.specs.Marks.{Through};
 use algorithm::Position;
 use table::rows::Row;
 use table::rows::mark_of;
@@ -60,21 +59,6 @@ pub(crate) fn put_figures(buffer: &mut [u8], at: usize, a: Row) -> usize
 {
     let end = put_three(buffer, at, a.term.0, a.set as u32, a.version.0);
     put_three(buffer, end, a.config.0, a.length.0 as u32, a.last.0)
-}
-
-// How many marks there are through the last that is not 0: marks of 0 may stand between others, so the search begins at the end.
-pub(crate) fn marked(t: &[u8]) -> u8
-    requires { ⌜ Held (now t) ⌝ }
-    ensures { λ n. ⌜ Through (tableIn (now (t .entry)) .marks) n ⌝ }
-{
-    let mut n: u8 = 64;
-    while 0 < n {
-        if mark_of(t, Position(n)).0 != 0 {
-            return n;
-        }
-        n -= 1;
-    }
-    0
 }
 
 // The first n marks.

@@ -47,7 +47,7 @@ row-passes n s r h =
     (rw (log-terms (s .log) r short) (subst Passes (terms-sound (s .log)) entries)))
     (rw (← drop-drop k 6 d, log-beyond (s .log) r short) (zeros-pass (64 - k)))
 
-terms-entries : (l : List ℕ) → terms (entries l) ≡ l
+pub terms-entries : (l : List ℕ) → terms (entries l) ≡ l
 terms-entries [] = refl
 terms-entries (x ∷ l) = ap (λ (m : List ℕ). x ∷ m) (terms-entries l)
 

@@ -1,7 +1,7 @@
 -- `rehearse::rehearse` meets its contract. Assumes nothing.
 use borrow.Author.Needs.{needs}
-use Rattle.image.proofs.Theorems.{read-within}
-use Rattle.rehearse.proofs.ReadLaws.{read-ready}
+use Rattle.image.proofs.Theorems.{read-whole, read-within}
+use Rattle.engine.proofs.ReadyLaws.{whole-ready}
 use Rattle.rehearse.proofs.rehearse.Statement.{statement}
 use Rattle.rehearse.proofs.rehearse.Tie as tie
 
@@ -30,7 +30,7 @@ part-play-end : tie.Need-part-play-end
 part-play-end c = search needs
 
 play-requires : tie.Need-play-requires
-play-requires c κs = search (needs, read-ready, read-within)
+play-requires c κs = search (needs, read-whole, whole-ready, read-within)
 
 slice-aggregate-say-table : tie.Need-slice-aggregate-say-table
 slice-aggregate-say-table c = search needs

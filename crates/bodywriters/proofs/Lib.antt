@@ -1,0 +1,2 @@
+-- The laws of the bodies' writers.
+pub mod BodyLaws

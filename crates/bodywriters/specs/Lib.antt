@@ -1,0 +1,2 @@
+-- The bodies that are written, and what is asked of the table.
+pub mod Written

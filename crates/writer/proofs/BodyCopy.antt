@@ -1,0 +1,91 @@
+-- A body that is read is written again as it was. Assumes nothing.
+use Prim.Native.Nat.{ℕ, zero, suc, _+_, _-_, _*_, _/_, _%_, _≤_, _<_}
+use native.Mathlib.Omega.{arith}
+use mathlib.Core.Path.{_≡_, refl, ap, sym, _∙_}
+use mathlib.Core.Bool.{_||_}
+use mathlib.Core.List.{List, [], _∷_, _++_}
+use mathlib.Core.Logic.{⊎-elim}
+use lib.Dec.{leb, eqb}
+use lib.ListN.{length, getD, take, drop, replicate}
+use lib.Seq.{getD-drop}
+use Rattle.members.proofs.Tests.{Passes, both, either, equal, at-most}
+use Rattle.algorithm.specs.Table.{nth, every, ceiling, kept, trimmed}
+use Rattle.words.specs.Words.{words, bytes, between}
+use Rattle.words.proofs.WordLaws.{length-words, bytes-words}
+use Rattle.table.specs.Layout.{padded}
+use Rattle.table.proofs.LayoutLaws.{padded-is}
+use Rattle.whole.proofs.WholeLaws.{terms-entries}
+use Rattle.bodies.specs.Bodies.{marksIn, serverIn, soundMarksBody}
+use Rattle.image.specs.Image.{half, marksBody, serverBody}
+
+-- ---- lists of bytes
+
+abbrev pub Bytes : List ℕ → Type 0
+Bytes l = (i : ℕ) → getD l i 0 < 256
+
+take-bytes : (k : ℕ) (l : List ℕ) → Bytes l → Bytes (take k l)
+take-bytes zero l h i = omega arith
+take-bytes (suc k) [] h i = omega arith
+take-bytes (suc k) (x ∷ l) h zero = h 0
+take-bytes (suc k) (x ∷ l) h (suc i) = take-bytes k l (λ j. h (suc j)) i
+
+pub part-bytes : (k at : ℕ) (l : List ℕ) → Bytes l → Bytes (take k (drop at l))
+part-bytes k at l h = take-bytes k (drop at l) (λ i. rw (getD-drop at l i 0) (h (at + i)))
+
+-- a number of two bytes is written as them
+pub half-of : (x y : ℕ) → x < 256 → y < 256 → half (x + 256 * y) ≡ x ∷ y ∷ []
+half-of x y hx hy =
+    let low : (x + 256 * y) % 256 ≡ x = omega arith in
+    let high : (x + 256 * y) / 256 ≡ y = omega arith in
+    let byte : y % 256 ≡ y = omega arith in
+    rw (low, high, byte)
+
+-- ---- marks whose last is not 0
+
+trim-zeros : (r : ℕ) → trimmed (replicate r 0) ≡ []
+unfolding trimmed
+trim-zeros zero = refl
+trim-zeros (suc r) = ap (kept 0) (trim-zeros r)
+
+kept-some : (x : ℕ) → 1 ≤ x → kept x [] ≡ x ∷ []
+kept-some zero h = absurd (omega arith)
+kept-some (suc x) h = refl
+
+trim-last : (x : ℕ) (l : List ℕ) (r : ℕ) → 1 ≤ getD (x ∷ l) (length l) 0 → trimmed ((x ∷ l) ++ replicate r 0) ≡ x ∷ l
+unfolding trimmed
+trim-last x [] r h = ap (kept x) (trim-zeros r) ∙ kept-some x h
+trim-last x (y ∷ l) r h = ap (kept x) (trim-last y l r h)
+
+trim-padded : (w : List ℕ) → length w ≤ 64 → Passes (eqb (length w) 0 || leb 1 (nth w (length w) 0)) → trimmed (padded 64 w) ≡ w
+unfolding nth
+trim-padded [] h e = ap trimmed (padded-is 64 [] 64 (omega arith)) ∙ trim-zeros 64
+trim-padded (x ∷ w) h e =
+    let last : 1 ≤ getD (x ∷ w) (length w) 0 = ⊎-elim (λ z. absurd (omega (arith, equal {a = suc (length w)} {b = 0} z))) at-most (either e) in
+    ap trimmed (padded-is 64 (x ∷ w) (64 - length (x ∷ w)) (omega arith)) ∙ trim-last x w (64 - length (x ∷ w)) last
+
+pub marks-copy : (b : List ℕ) (k : ℕ) → Bytes b → length b ≡ 4 * k → length b ≤ 256 → Passes (soundMarksBody b) → marksBody (marksIn b) ≡ b
+marks-copy b k h e l s =
+    let (_, ends) = both {a = every (between 0 ceiling) (words b)} s in
+    ap bytes (trim-padded (words b) (omega (arith, length-words b)) ends) ∙ bytes-words b k e h
+
+-- ---- a server
+
+three-first : (w : List ℕ) → 3 ≤ length w → getD w 0 0 ∷ getD w 1 0 ∷ getD w 2 0 ∷ drop 3 w ≡ w
+three-first [] h = absurd (omega arith)
+three-first (x ∷ []) h = absurd (omega arith)
+three-first (x ∷ y ∷ []) h = absurd (omega arith)
+three-first (x ∷ y ∷ z ∷ w) h = refl
+
+pub server-copy : (b : List ℕ) (k : ℕ) → Bytes b → length b ≡ 4 * k → 16 ≤ length b → getD b 1 0 ≡ 0 → serverBody (serverIn b) ≡ b
+unfolding words
+server-copy [] k h e l z = absurd (omega arith)
+server-copy (x ∷ []) k h e l z = absurd (omega arith)
+server-copy (x ∷ y ∷ []) k h e l z = absurd (omega arith)
+server-copy (x ∷ y ∷ u ∷ []) k h e l z = absurd (omega arith)
+server-copy (x ∷ y ∷ u ∷ v ∷ r) zero h e l z = absurd (omega arith)
+server-copy (x ∷ y ∷ u ∷ v ∷ r) (suc k) h e l z =
+    let w = words r in
+    let log = ap (λ (m : List ℕ). bytes (getD w 0 0 ∷ getD w 1 0 ∷ getD w 2 0 ∷ m)) (terms-entries (drop 3 w)) in
+    let tail =
+    log ∙ ap bytes (three-first w (omega (arith, length-words r))) ∙ bytes-words r k (omega arith) (λ i. h (suc (suc (suc (suc i))))) in
+    λ i. x ∷ sym z i ∷ (half-of u v (h 2) (h 3) i ++ tail i)

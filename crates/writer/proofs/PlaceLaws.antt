@@ -1,0 +1,191 @@
+-- The places of an image's parts, one behind another. Assumes nothing.
+use Prim.Native.Nat.{ℕ, zero, suc, _+_, _-_, _*_, _≤_, _<_}
+use native.Mathlib.Nat.{add-assoc}
+use native.Mathlib.Numerals.{add-one}
+use native.Mathlib.Omega.{arith}
+use mathlib.Core.Path.{_≡_, refl, ap, sym, _∙_}
+use mathlib.Core.List.{List, [], _∷_, _++_, append-assoc, append-nil, flatten}
+use lib.ListN.{length, getD, take, drop, length-append, length-drop, length-map}
+use lib.Seq.{take-all, drop-drop, drop-length}
+use Rattle.algorithm.specs.Table.{Table, absent, count}
+use Rattle.table.specs.Layout.{tableIn}
+use Rattle.texts.specs.Buffer.{Wrote}
+use Rattle.texts.proofs.WroteLaws.{wrote-none, sized, then}
+use Rattle.contents.specs.Contents.{firstBody}
+use Rattle.image.specs.Image.{half, opening, serverBody, bodies, contents, image}
+use Rattle.image.proofs.ImageLaws.{length-contents}
+use Rattle.bodywriters.specs.Written.{bodyOf, Savable}
+
+-- ---- one more of some bodies
+
+module _ (d : List ℕ) where
+  pub flatten-more : (bs : List (List ℕ)) (e : ℕ) → e < length bs → flatten (take (suc e) bs) ≡ flatten (take e bs) ++ getD bs e d
+  unfolding flatten
+  flatten-more [] e h = absurd (omega arith)
+  flatten-more (b ∷ bs) zero h = append-nil b
+  flatten-more (b ∷ bs) (suc e) h =
+      ap (λ (l : List ℕ). b ++ l) (flatten-more bs e (omega arith)) ∙ sym (append-assoc b (flatten (take e bs)) (getD bs e d))
+
+  flatten-most : (bs : List (List ℕ)) (e : ℕ) → e < length bs → length (flatten (take e bs)) + length (getD bs e d) ≤ length (flatten bs)
+  unfolding flatten
+  flatten-most [] e h = absurd (omega arith)
+  flatten-most (b ∷ bs) zero h = omega (arith, length-append b (flatten bs))
+  flatten-most (b ∷ bs) (suc e) h =
+      omega (arith, length-append b (flatten (take e bs)), length-append b (flatten bs), flatten-most bs e (omega arith))
+
+  pub contents-more : (at : ℕ) (bs : List (List ℕ)) (e : ℕ) → e < length bs
+      → contents at (take (suc e) bs) ≡ contents at (take e bs) ++ (half (at + length (flatten (take e bs))) ++ half (length (getD bs e d)))
+  unfolding contents flatten
+  contents-more at [] e h = absurd (omega arith)
+  contents-more at (b ∷ bs) zero h =
+      let here : at + 0 ≡ at = omega arith in
+      rw here
+  contents-more at (b ∷ bs) (suc e) h =
+      rw (contents-more (at + length b) bs e (omega arith), length-append b (flatten (take e bs)), add-assoc at (length b) (length (flatten (take e bs))))
+
+-- ---- the places of a table's bodies
+
+many : (t : Table) → length (bodies t) ≡ count t + 1
+many t = omega (arith, length-map (t .servers) serverBody)
+
+pub length-image : (t : Table) → length (image t) ≡ firstBody (count t) + length (flatten (bodies t))
+unfolding image
+length-image t =
+    let front = contents (firstBody (count t)) (bodies t) in
+    omega (arith, many t, length-append front (flatten (bodies t)), length-contents (firstBody (count t)) (bodies t))
+
+-- body e begins at a place
+pub record Placed (t : Table) (e at : ℕ) : Type 0 where
+  pub offset : at ≡ firstBody (count t) + length (flatten (take e (bodies t)))
+  pub small : at ≤ 76 + 272 * e
+
+module _ (t : List ℕ) (n : ℕ) (h : Savable t) (c : n ≡ count (tableIn t)) where
+  pub few-servers : n ≤ 16
+  few-servers = omega (arith, h .held .shaped .few)
+
+  pub placed-none : Placed (tableIn t) 0 (12 + 4 * n)
+  unfolding flatten
+  placed-none = record { offset = omega arith; small = omega (arith, h .held .shaped .few) }
+
+  module _ (e at : ℕ) (p : Placed (tableIn t) e at) where
+    pub placed-more : (v : ℕ) → e ≤ n → v ≡ length (bodyOf (tableIn t) e) → v ≤ 272 → Placed (tableIn t) (e + 1) (at + v)
+    placed-more v l s m =
+        let bs = bodies (tableIn t) in
+        let longer = flatten-more (serverBody absent) bs e (omega (arith, many (tableIn t))) in
+        record {
+          offset =
+              rw (add-one, longer)
+              (omega (arith, p .offset, length-append (flatten (take e bs)) (bodyOf (tableIn t) e)));
+          small = omega (arith, p .small);
+        }
+
+    pub placed-all : e ≤ n + 1 → n < e → at ≡ length (image (tableIn t))
+    placed-all l m =
+        let bs = bodies (tableIn t) in
+        let all : take e bs ≡ bs = take-all e bs (omega (arith, many (tableIn t))) in
+        omega (arith, p .offset, ap (λ (x : List (List ℕ)). length (flatten x)) all, length-image (tableIn t))
+
+-- ---- the contents
+
+-- the entries of the first e bodies are written
+pub record Entered (t : Table) (b : List ℕ) (from : ℕ) (b' : List ℕ) (e z : ℕ) : Type 0 where
+  pub long : length b' ≡ length b
+  pub end : z ≡ from + 4 * e
+  pub wrote : Wrote b b' from (contents (firstBody (count t)) (take e (bodies t))) z
+
+module _ (t : Table) (b : List ℕ) (from : ℕ) where
+  pub entered-none : from ≤ length b → Entered t b from b 0 from
+  unfolding contents
+  entered-none h = record { long = refl; end = omega arith; wrote = wrote-none b from h }
+
+  module _ (b₁ : List ℕ) (n e end : ℕ) (c : n ≡ count t) (g : Entered t b from b₁ e end) where
+    pub entered-more : (b₂ b₃ : List ℕ) (at v d f : ℕ) → e ≤ n → Placed t e at → v ≡ length (bodyOf t e) → Wrote b₁ b₂ end (half at) d
+        → Wrote b₂ b₃ d (half v) f → Entered t b from b₃ (e + 1) f
+    entered-more b₂ b₃ at v d f l p s w x =
+        let next = contents-more (serverBody absent) (firstBody (count t)) (bodies t) e (omega (arith, many t)) in
+        record {
+          long = sized (then w x) ∙ g .long;
+          end = omega (arith, g .end, w .end, x .end);
+          wrote = rw (add-one, next, ← p .offset, ← s) (then (g .wrote) (then w x));
+        }
+
+    pub entered-all : e ≤ n + 1 → n < e → Wrote b b₁ from (contents (firstBody (count t)) (bodies t)) end
+    entered-all l m = rw (take-all e (bodies t) (omega (arith, many t))) at (g .wrote)
+
+-- ---- the bodies
+
+-- what is written at the start of a part is written where the part starts
+module _ (b : List ℕ) (at : ℕ) (h : at ≤ length b) where
+  part : take (length b - at) (drop at b) ≡ drop at b
+  part = take-all (length b - at) (drop at b) (omega (arith, length-drop at b))
+
+  none : drop (length b - at) (drop at b) ≡ []
+  none =
+      let all : at + (length b - at) ≡ length b = omega arith in
+      drop-drop (length b - at) at b ∙ rw (all, drop-length b)
+
+  part-wrote : (ys l : List ℕ) (r : ℕ) → Wrote (take (length b - at) (drop at b)) ys 0 l r
+      → Wrote b (take at b ++ (ys ++ drop (length b - at) (drop at b))) at l (at + r)
+  part-wrote ys l r v =
+      let w : Wrote (drop at b) ys 0 l r = rw part at v in
+      record {
+        end = omega (arith, w .end);
+        room = omega (arith, w .room, length-drop at b);
+        bytes = rw (none, append-nil ys, w .bytes, drop-drop r at b);
+      }
+
+-- the first e bodies are written
+pub record Bodied (t : Table) (b : List ℕ) (from : ℕ) (b' : List ℕ) (e at : ℕ) : Type 0 where
+  pub long : length b' ≡ length b
+  pub wrote : Wrote b b' from (flatten (take e (bodies t))) at
+
+module _ (t : Table) (b : List ℕ) (from : ℕ) where
+  pub bodied-none : from ≤ length b → Bodied t b from b 0 from
+  unfolding flatten
+  bodied-none h = record { long = refl; wrote = wrote-none b from h }
+
+  module _ (b₁ : List ℕ) (n e at : ℕ) (c : n ≡ count t) (g : Bodied t b from b₁ e at) where
+    pub body-start : at ≤ length b₁
+    body-start = omega (arith, g .wrote .room, g .long)
+
+    pub body-room : e ≤ n → from + length (flatten (bodies t)) ≤ length b → length (bodyOf t e) ≤ length (take (length b₁ - at) (drop at b₁))
+    body-room l h =
+        rw (part b₁ at body-start)
+        (omega (arith, length-drop at b₁, g .long, g .wrote .end, flatten-most (serverBody absent) (bodies t) e (omega (arith, many t))))
+
+    pub bodied-more : (ys : List ℕ) (r : ℕ) → e ≤ n → Wrote (take (length b₁ - at) (drop at b₁)) ys 0 (bodyOf t e) r
+        → Bodied t b from (take at b₁ ++ (ys ++ drop (length b₁ - at) (drop at b₁))) (e + 1) (at + r)
+    bodied-more ys r l w =
+        let next = part-wrote b₁ at body-start ys (bodyOf t e) r w in
+        record {
+          long = sized next ∙ g .long;
+          wrote =
+              rw (add-one, flatten-more (serverBody absent) (bodies t) e (omega (arith, many t))) (then (g .wrote) next);
+        }
+
+    pub bodied-all : e ≤ n + 1 → n < e → Wrote b b₁ from (flatten (bodies t)) at
+    bodied-all l m = rw (take-all e (bodies t) (omega (arith, many t))) at (g .wrote)
+
+-- ---- the image
+
+pub opening-wrote : (b b₁ b₂ b₃ : List ℕ) (c d e n : ℕ) → Wrote b b₁ 0 (83 ∷ 73 ∷ 84 ∷ 69 ∷ []) c → Wrote b₁ b₂ c (n ∷ []) d
+    → Wrote b₂ b₃ d (0 ∷ 0 ∷ 0 ∷ []) e → Wrote b b₃ 0 (opening n) e
+opening-wrote b b₁ b₂ b₃ c d e n w x y = then (then w x) y
+
+module _ (t : Table) (b : List ℕ) (h : length (image t) ≤ length b) where
+  pub opening-room : 8 ≤ length b
+  opening-room = omega (arith, length-image t)
+
+  module _ (b₁ : List ℕ) (n c : ℕ) (w : Wrote b b₁ 0 (opening n) c) where
+    pub contents-room : c + 4 * (count t + 1) ≤ length b₁
+    contents-room = omega (arith, length-image t, w .end, sized w)
+
+    pub bodies-room : (b₂ : List ℕ) (d : ℕ) → Wrote b₁ b₂ c (contents (firstBody (count t)) (bodies t)) d
+        → d + length (flatten (bodies t)) ≤ length b₂
+    bodies-room b₂ d x =
+        omega (arith, length-image t, w .end, sized w, x .end, sized x, length-contents (firstBody (count t)) (bodies t), many t)
+
+pub image-wrote : (t : Table) (n : ℕ) → n ≡ count t → (b b₁ b₂ b₃ : List ℕ) (c d e : ℕ) → Wrote b b₁ 0 (opening n) c
+    → Wrote b₁ b₂ c (contents (firstBody (count t)) (bodies t)) d → Wrote b₂ b₃ d (flatten (bodies t)) e → Wrote b b₃ 0 (image t) e
+unfolding image
+image-wrote t n k b b₁ b₂ b₃ c d e w x y = then (then (rw k at w) x) y

@@ -1,0 +1,64 @@
+-- `writer::image_length` meets its contract. Assumes nothing.
+use Prim.Native.Nat.{_+_, _-_, _≤_}
+use borrow.Author.Needs.{needs}
+use Rattle.table.specs.Layout.{tableIn}
+use Rattle.writer.proofs.PlaceLaws.{Placed, few-servers, placed-none, placed-more, placed-all}
+use Rattle.writer.proofs.image_length.Statement.{statement}
+use Rattle.writer.proofs.image_length.Tie as tie
+
+abbrev Inv-loop : tie.InvT-loop
+Inv-loop t n at₀ e₀ at e = (e ≤ n + 1) × (n ≤ 16) × Placed (tableIn t) e at
+
+abbrev μ-loop : tie.MeasureT-loop
+μ-loop t n at₀ e₀ at e = n + 1 - e
+
+count-of-requires : tie.Need-count-of-requires Inv-loop μ-loop
+count-of-requires c κs = search needs
+
+cast-n : tie.Need-cast-n Inv-loop μ-loop
+cast-n c = search needs
+
+mul-at : tie.Need-mul-at Inv-loop μ-loop
+mul-at c = search needs
+
+add-at : tie.Need-add-at Inv-loop μ-loop
+add-at c = search needs
+
+loop-holds : tie.Need-loop-holds Inv-loop μ-loop
+loop-holds c = (search needs, search (needs, few-servers), search (needs, placed-none))
+
+size-of-requires : tie.Need-size-of-requires Inv-loop μ-loop
+size-of-requires c κs = search needs
+
+add-at-2 : tie.Need-add-at-2 Inv-loop μ-loop
+add-at-2 c = search needs
+
+add-e : tie.Need-add-e Inv-loop μ-loop
+add-e c = search needs
+
+loop-less : tie.Need-loop-less Inv-loop μ-loop
+loop-less c = search needs
+
+loop-again : tie.Need-loop-again Inv-loop μ-loop
+loop-again c = (search needs, search needs, search (needs, placed-more))
+
+returns : tie.Need-returns Inv-loop μ-loop
+returns c = search (needs, placed-all)
+
+pub image-length-spec : {M : Type 1} → statement M
+image-length-spec =
+    tie.close
+    (tie.spec
+    Inv-loop
+    μ-loop
+    count-of-requires
+    cast-n
+    mul-at
+    add-at
+    loop-holds
+    size-of-requires
+    add-at-2
+    add-e
+    loop-less
+    loop-again
+    returns)

@@ -1,0 +1,72 @@
+-- `writer::put_bodies` meets its contract. Assumes nothing.
+use Prim.Native.Nat.{_+_, _-_, _≤_}
+use borrow.Author.Needs.{needs}
+use Rattle.table.specs.Layout.{tableIn}
+use Rattle.writer.proofs.PlaceLaws.{Bodied, few-servers, bodied-none, body-start, body-room, bodied-more, bodied-all}
+use Rattle.writer.proofs.put_bodies.Statement.{statement}
+use Rattle.writer.proofs.put_bodies.Tie as tie
+
+abbrev Inv-loop : tie.InvT-loop
+Inv-loop buffer₀ from t n at₀ e₀ buffer at e = (e ≤ n + 1) × (n ≤ 16) × Bodied (tableIn t) buffer₀ from buffer e at
+
+abbrev μ-loop : tie.MeasureT-loop
+μ-loop buffer₀ from t n at₀ e₀ buffer at e = n + 1 - e
+
+count-of-requires : tie.Need-count-of-requires Inv-loop μ-loop
+count-of-requires c κs = search needs
+
+cast-n : tie.Need-cast-n Inv-loop μ-loop
+cast-n c = search needs
+
+loop-holds : tie.Need-loop-holds Inv-loop μ-loop
+loop-holds c = (search needs, search (needs, few-servers), bodied-none _ _ _ (search needs))
+
+sub-put-body : tie.Need-sub-put-body Inv-loop μ-loop
+sub-put-body c = search needs
+
+part-put-body-start : tie.Need-part-put-body-start Inv-loop μ-loop
+part-put-body-start c = search (needs, body-start)
+
+part-put-body-end : tie.Need-part-put-body-end Inv-loop μ-loop
+part-put-body-end c = search needs
+
+put-body-requires : tie.Need-put-body-requires Inv-loop μ-loop
+put-body-requires c κs = (search needs, (search needs, search (needs, body-room)))
+
+add-at : tie.Need-add-at Inv-loop μ-loop
+add-at c = search needs
+
+add-e : tie.Need-add-e Inv-loop μ-loop
+add-e c = search needs
+
+loop-less : tie.Need-loop-less Inv-loop μ-loop
+loop-less c = search needs
+
+loop-again : tie.Need-loop-again Inv-loop μ-loop
+loop-again c = (search needs, search needs, search (needs, bodied-more))
+
+same-length : tie.Need-same-length Inv-loop μ-loop
+same-length c = search needs
+
+returns : tie.Need-returns Inv-loop μ-loop
+returns c = search (needs, bodied-all)
+
+pub put-bodies-spec : {M : Type 1} → statement M
+put-bodies-spec =
+    tie.close
+    (tie.spec
+    Inv-loop
+    μ-loop
+    count-of-requires
+    cast-n
+    loop-holds
+    sub-put-body
+    part-put-body-start
+    part-put-body-end
+    put-body-requires
+    add-at
+    add-e
+    loop-less
+    loop-again
+    same-length
+    returns)

@@ -1,0 +1,38 @@
+-- `writer::write` meets its contract. Assumes nothing.
+use borrow.Author.Needs.{needs}
+use Rattle.writer.proofs.AnswerLaws.{savable, no-table, no-room, written}
+use Rattle.writer.proofs.write.Statement.{statement}
+use Rattle.writer.proofs.write.Tie as tie
+
+is-whole-requires : tie.Need-is-whole-requires
+is-whole-requires c κs = search needs
+
+returns : tie.Need-returns
+returns c = search (needs, no-table)
+
+image-length-requires : tie.Need-image-length-requires
+image-length-requires c κs = search (needs, savable)
+
+returns-2 : tie.Need-returns-2
+returns-2 c = search (needs, no-room)
+
+put-image-requires : tie.Need-put-image-requires
+put-image-requires c κs = (search (needs, savable), search needs)
+
+same-length : tie.Need-same-length
+same-length c = search needs
+
+returns-3 : tie.Need-returns-3
+returns-3 c = search (needs, written)
+
+pub write-spec : {M : Type 1} → statement M
+write-spec =
+    tie.close
+    (tie.spec
+    is-whole-requires
+    returns
+    image-length-requires
+    returns-2
+    put-image-requires
+    same-length
+    returns-3)

@@ -1,0 +1,2 @@
+-- The writer of a table's image.
+pub mod Writer

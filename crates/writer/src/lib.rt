@@ -1,0 +1,104 @@
+// The writer of a table's image (image/specs/Image.antt): nothing is written before the table is known to be whole and the buffer to be long
+// enough.
+ghost use mathlib.Core.Path.{_≡_};
+ghost use Prim.Native.Nat.{_+_, _*_, _≤_};
+ghost use lib.ListN.{length};
+ghost use mathlib.Core.List.{flatten};
+ghost use Rattle.algorithm.specs.Table.{count};
+ghost use Rattle.table.specs.Layout.{tableIn};
+ghost use Rattle.texts.specs.Buffer.{Wrote};
+ghost use Rattle.contents.specs.Contents.{firstBody};
+ghost use Rattle.image.specs.Image.{opening, bodies, contents};
+ghost use Rattle.bodywriters.specs.Written.{Savable};
+ghost use Rattle.writer.specs.Writer.{imageOf, WriteAnswer};
+use bodywriters::put_body;
+use bodywriters::put_half;
+use bodywriters::size_of;
+use table::rows::count_of;
+use texts::put_byte;
+use texts::put_word;
+use whole::is_whole;
+
+// The length of the image.
+fn image_length(t: &[u8]) -> usize
+    requires { ⌜ Savable (now t) ⌝ }
+    ensures { λ r. ⌜ r ≡ length (imageOf (now (t .entry))) ⌝ }
+{
+    let n = count_of(t) as usize;
+    let mut at = 12 + 4 * n;
+    let mut e: usize = 0;
+    while e <= n {
+        at += size_of(t, e);
+        e += 1;
+    }
+    at
+}
+
+fn put_opening(buffer: &mut [u8], n: u8) -> usize
+    requires { ⌜ 8 ≤ length (now buffer) ⌝ }
+    ensures { λ r. ⌜ Wrote (now (buffer .entry)) (now (buffer .exit)) 0 (opening n) r ⌝ }
+{
+    let end = put_word(buffer, 0, b"SITE");
+    let end = put_byte(buffer, end, n);
+    put_word(buffer, end, b"\0\0\0")
+}
+
+// For each body its entry: its offset, which is where the one before it ends, and its length.
+fn put_contents(buffer: &mut [u8], from: usize, t: &[u8]) -> usize
+    requires { ⌜ Savable (now t) ⌝ }
+    requires { ⌜ from + 4 * (count (tableIn (now t)) + 1) ≤ length (now buffer) ⌝ }
+    ensures { λ r. ⌜ Wrote (now (buffer .entry)) (now (buffer .exit)) from (contents (firstBody (count (tableIn (now (t .entry))))) (bodies (tableIn (now (t .entry))))) r ⌝ }
+{
+    let n = count_of(t) as usize;
+    let mut end = from;
+    let mut at = 12 + 4 * n;
+    let mut e: usize = 0;
+    while e <= n {
+        let size = size_of(t, e);
+        end = put_half(buffer, end, at);
+        end = put_half(buffer, end, size);
+        at += size;
+        e += 1;
+    }
+    end
+}
+
+// The bodies one behind another: the writer of each gets the part of the buffer that starts at its offset.
+fn put_bodies(buffer: &mut [u8], from: usize, t: &[u8]) -> usize
+    requires { ⌜ Savable (now t) ⌝ }
+    requires { ⌜ from + length (flatten (bodies (tableIn (now t)))) ≤ length (now buffer) ⌝ }
+    ensures { λ r. ⌜ Wrote (now (buffer .entry)) (now (buffer .exit)) from (flatten (bodies (tableIn (now (t .entry))))) r ⌝ }
+{
+    let n = count_of(t) as usize;
+    let mut at = from;
+    let mut e: usize = 0;
+    while e <= n {
+        at += put_body(&mut buffer[at..], t, e);
+        e += 1;
+    }
+    at
+}
+
+fn put_image(buffer: &mut [u8], t: &[u8]) -> usize
+    requires { ⌜ Savable (now t) ⌝ }
+    requires { ⌜ length (imageOf (now t)) ≤ length (now buffer) ⌝ }
+    ensures { λ r. ⌜ Wrote (now (buffer .entry)) (now (buffer .exit)) 0 (imageOf (now (t .entry))) r ⌝ }
+{
+    let end = put_opening(buffer, count_of(t));
+    let end = put_contents(buffer, end, t);
+    put_bodies(buffer, end, t)
+}
+
+// Writes the image of a table into a buffer, and puts into `end` where it ends. Refused, it touches neither.
+pub fn write(table: &[u8], buffer: &mut [u8], end: &mut u64) -> u32
+    ensures { λ r. ⌜ WriteAnswer (now (table .entry)) (now (buffer .entry)) (now (end .entry)) r (now (buffer .exit)) (now (end .exit)) ⌝ }
+{
+    if !is_whole(table) {
+        return 1;
+    }
+    if buffer.len() < image_length(table) {
+        return 35;
+    }
+    *end = put_image(buffer, table) as u64;
+    0
+}
