@@ -4,8 +4,8 @@ use native.Mathlib.Omega.{arith}
 use mathlib.Core.Path.{_≡_, refl, ap, sym, _∙_}
 use mathlib.Core.Bool.{true}
 use mathlib.Core.List.{List, [], _++_}
-use lib.ListN.{length, getD, take, drop, length-append}
-use lib.Seq.{length-take-le}
+use lib.ListN.{length, getD, take, drop, length-append, take-append-drop}
+use lib.Seq.{take-at, length-take-le}
 use borrow.Author.Tests.{eq-eqb}
 use Rattle.members.proofs.Tests.{refuted}
 use Rattle.algorithm.specs.Table.{every}
@@ -48,19 +48,27 @@ module _ (b buffer : List ℕ) (e k : ℕ) (buffer' : List ℕ) (e' : ℕ) (w : 
   pub written-lent : e' ≡ length (take e' buffer')
   written-lent = sym (length-take-le e' buffer' written-within)
 
--- Reading what was written gives the table, bytewise, and the end where its image ends.
-pub read-written : {b buffer buffer' slice slice' : List ℕ} {e e' z z' r : ℕ} → WriteAnswer b buffer e 0 buffer' e' → length slice ≡ 4760
-    → ReadAnswer buffer' slice z r slice' z' → (r ≡ 0) × (slice' ≡ b) × (z' ≡ e')
-read-written {b} {buffer} {buffer'} {slice} {e' = e'} {z = z} w sized a =
+-- Reading what was written, whatever bytes follow it, gives the table, byte for byte, and the end where its image ends.
+pub read-saved : {b buffer buffer' slice slice' : List ℕ} {e e' z z' r : ℕ} → WriteAnswer b buffer e 0 buffer' e' → (rest : List ℕ)
+    → length slice ≡ 4760 → ReadAnswer (take e' buffer' ++ rest) slice z r slice' z' → (r ≡ 0) × (slice' ≡ b) × (z' ≡ e')
+read-saved {b} {buffer} {buffer'} {slice} {e' = e'} {z = z} w rest sized a =
     let yes = was-whole b buffer (sym (w .reply)) in
     let done = eq-eqb (writeReply b buffer) 0 (sym (w .reply)) in
     let behind = drop (length (imageOf b)) buffer in
     let begins : buffer' ≡ imageOf b ++ behind = w .bytes ∙ rw done in
     let ends : e' ≡ length (imageOf b) = w .end ∙ rw done in
-    let (number, _, bytes, end) = read-back (tableIn b) behind slice z (whole-sound b yes) sized in
-    let read : ReadAnswer buffer' slice z 0 b e' =
-    rw begins (record { reply = sym number; bytes = whole-stored b yes ∙ sym bytes; end = ends ∙ sym end }) in
+    let saved : take e' buffer' ≡ imageOf b = ap (take e') begins ∙ take-at (imageOf b) behind e' (sym ends) in
+    let (number, _, bytes, end) = read-back (tableIn b) rest slice z (whole-sound b yes) sized in
+    let read : ReadAnswer (take e' buffer' ++ rest) slice z 0 b e' =
+    rw saved (record { reply = sym number; bytes = whole-stored b yes ∙ sym bytes; end = ends ∙ sym end }) in
     reader.unique a read
+
+-- So does reading the buffer itself.
+pub read-written : {b buffer buffer' slice slice' : List ℕ} {e e' z z' r : ℕ} → WriteAnswer b buffer e 0 buffer' e' → length slice ≡ 4760
+    → ReadAnswer buffer' slice z r slice' z' → (r ≡ 0) × (slice' ≡ b) × (z' ≡ e')
+read-written {buffer' = buffer'} {slice} {slice'} {e' = e'} {z} {z'} {r} w sized a =
+    let all : ReadAnswer (take e' buffer' ++ drop e' buffer') slice z r slice' z' = rw (take-append-drop e' buffer') a in
+    read-saved w (drop e' buffer') sized all
 
 -- Writing what was read gives the same bytes up to the image's end, whatever the buffer held, and that end; the buffer behind it stays.
 pub written-read : {im slice b buffer buffer' : List ℕ} {e z d z' r : ℕ} → ((i : ℕ) → getD im i 0 < 256) → ReadAnswer im slice e 0 b z
