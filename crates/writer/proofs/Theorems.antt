@@ -19,7 +19,7 @@ use Rattle.image.specs.Reader.{readTable, readEnd, ReadAnswer}
 use Rattle.image.proofs.ReplyLaws.{read-into, read-upto}
 use Rattle.image.proofs.Theorems.{not-broken, read-whole, read-within, read-back}
 use Rattle.image.proofs.Theorems as reader
-use Rattle.writer.specs.Writer.{imageOf, writeRefusals, writeReply, WriteAnswer}
+use Rattle.writer.specs.Writer.{imageOf, writerRefusals, writeReply, WriteAnswer}
 use Rattle.writer.proofs.AnswerLaws.{written-reply}
 use Rattle.writer.proofs.ImageCopy.{image-copied}
 
@@ -32,7 +32,7 @@ unique h k = (h .reply ∙ sym (k .reply), h .bytes ∙ sym (k .bytes), h .end �
 was-whole : (slice buffer : List ℕ) → writeReply slice buffer ≡ 0 → whole slice ≡ true
 unfolding writeReply every
 was-whole slice buffer e =
-    let ((w, _), _) = first-later 0 (writeRefusals slice buffer) [] tt e in
+    let ((w, _), _) = first-later 0 (writerRefusals slice buffer) [] tt e in
     is-true (whole slice) (refuted {b = whole slice} w .yes)
 
 -- Where the image is written it lies within the buffer, and what is lent up to its end is as long as the end says.

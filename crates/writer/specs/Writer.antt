@@ -15,12 +15,12 @@ abbrev pub imageOf : List ℕ → List ℕ
 imageOf slice = image (tableIn slice)
 
 -- the refusals for a table's slice and the buffer that its image is to be written into
-abbrev pub writeRefusals : List ℕ → List ℕ → List Refusal
-writeRefusals slice buffer = refuse 1 (not (whole slice)) ∷ refuse 35 (ltb (length buffer) (length (imageOf slice))) ∷ []
+abbrev pub writerRefusals : List ℕ → List ℕ → List Refusal
+writerRefusals slice buffer = refuse 1 (not (whole slice)) ∷ refuse 35 (ltb (length buffer) (length (imageOf slice))) ∷ []
 
 -- the number of the first that holds, or 0: written
 unfoldable pub writeReply : List ℕ → List ℕ → ℕ
-writeReply slice buffer = first (writeRefusals slice buffer)
+writeReply slice buffer = first (writerRefusals slice buffer)
 
 -- a where the image is written, and b where it is refused
 abbrev pub ifWritten : {A : Type 0} → List ℕ → List ℕ → A → A → A
