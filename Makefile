@@ -5,10 +5,11 @@ REHEARSE = target/bin/rehearse
 SAVE = target/bin/save
 COUNT = 2000
 
-.PHONY: help test demo soak c-tests rehearsals bench archive programs
+.PHONY: help test edits demo soak c-tests rehearsals bench archive programs
 
 help:
 	@echo "make test       the gate: proves every crate from nothing, tries every must-fail edit, runs every test"
+	@echo "make edits      tries every must-fail edit, those that are beyond the gate's time too"
 	@echo "make demo       builds the programs and rehearses one evening in front of you"
 	@echo "make soak       compares the programs with the plain one on COUNT=$(COUNT) inputs drawn from SEED=1"
 	@echo "make c-tests    the tests in C alone, over the archive of the exported functions"
@@ -16,6 +17,9 @@ help:
 
 test:
 	@tests/gate
+
+edits:
+	@tests/edits
 
 demo: programs
 	@sed 's/^/    /' tests/sites/whole.txt
