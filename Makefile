@@ -8,7 +8,7 @@ COUNT = 2000
 .PHONY: help test edits demo soak c-tests rehearsals bench archive programs
 
 help:
-	@echo "make test       the gate: proves every crate from nothing, tries every must-fail edit, runs every test"
+	@echo "make test       the gate: proves every crate from nothing, tries the must-fail edits, runs every test"
 	@echo "make edits      tries every must-fail edit, those that are beyond the gate's time too"
 	@echo "make demo       builds the programs and rehearses one evening in front of you"
 	@echo "make soak       compares the programs with the plain one on COUNT=$(COUNT) inputs drawn from SEED=1"
