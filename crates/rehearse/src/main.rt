@@ -8,6 +8,8 @@ use engine::run;
 use image::read;
 use libc::STDIN_FILENO;
 use libc::STDOUT_FILENO;
+use say::MOST;
+use say::PIECES;
 use say::say_bad_site;
 use say::say_cut;
 use say::say_replies;
@@ -15,17 +17,12 @@ use say::say_table;
 use say::say_too_long;
 use table::BYTES;
 
-// The longest input, and the most actions that such an input has.
-const MOST: usize = 65536;
-
-const REPLIES: usize = 8192;
-
 fn play(t: &mut [u8], actions: &[u8])
     requires { ⌜ Ready (now t) ⌝ }
     requires { ⌜ length (now actions) ≤ 65536 ⌝ }
     ensures { λ _. ⌜ Held (now (t .exit)) ⌝ }
 {
-    let mut replies = [0u8; REPLIES];
+    let mut replies = [0u8; PIECES];
     let whole = actions.len() - actions.len() % 8;
     let n = run(t, &actions[..whole], &mut replies);
     say_replies(&replies, n);

@@ -1,22 +1,18 @@
 // Plays a plan as rehearse does, and writes the image of the table that is left to standard output: a plan appended to it goes on next day. An
 // input that is not played is told on standard error, in rehearse's words.
-ghost use Prim.Native.Nat.{_≤_};
-ghost use lib.ListN.{length};
 use engine::run;
 use image::read;
 use libc::STDERR_FILENO;
 use libc::STDIN_FILENO;
 use libc::STDOUT_FILENO;
+use say::MOST;
+use say::PIECES;
 use say::say_bad_site;
 use say::say_too_long;
 use table::BYTES;
 use writer::write;
 
-// The longest input, the most pieces that such an input has, and the longest image.
-const MOST: usize = 65536;
-
-const REPLIES: usize = 8192;
-
+// The longest image: 16 servers, each log and the marks full.
 const IMAGE: usize = 4684;
 
 fn write_image(t: &[u8]) {
@@ -38,7 +34,7 @@ fn save(input: &[u8]) {
         say_bad_site(STDERR_FILENO, number);
         return;
     }
-    let mut replies = [0u8; REPLIES];
+    let mut replies = [0u8; PIECES];
     let at = end as usize;
     run(&mut t, &input[at..], &mut replies);
     write_image(&t);

@@ -15,6 +15,11 @@ use table::rows::Row;
 use table::rows::count_of;
 use table::rows::row_of;
 
+// The longest input of the programs, and the most pieces of 8 bytes that such an input has.
+pub const MOST: usize = 65536;
+
+pub const PIECES: usize = 8192;
+
 pub fn say_too_long(fd: i32)
     ensures { λ _. ⊤ₛ }
 {
