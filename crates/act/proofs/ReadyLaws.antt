@@ -1,20 +1,21 @@
 -- What the refusals that do not hold of an action give to the function that does it. Assumes nothing.
-use Prim.Native.Nat.{ℕ, suc, _≤_, _<_}
+use Prim.Native.Nat.{ℕ, _≤_, _<_}
 use native.Mathlib.Omega.{arith}
 use mathlib.Core.Path.{_≡_, refl, subst}
 use mathlib.Core.Logic.{_≢_, ⊎-elim}
 use mathlib.Core.Bool.{true, not, _&&_, _||_}
 use mathlib.Core.List.{List, [], _∷_}
-use lib.Dec.{T, leb, ltb, eqb}
+use lib.Dec.{T, ltb, eqb}
 use lib.ListN.{length, getD}
 use Rattle.members.specs.Members.{within}
-use Rattle.members.proofs.Tests.{Passes, Fails, both, either, neither, refuted, contradiction, unequal, less, at-most, above, equal}
+use Rattle.members.proofs.Tests.{Passes, Fails, both, either, neither, refuted, contradiction, unequal, less, above}
 use Rattle.algorithm.specs.Table.{Log, Table, every, count, server, ceiling, positions}
 use Rattle.algorithm.specs.Comparisons.{last, prefix}
 use Rattle.algorithm.specs.Refusals.{Action, unknown, kinds, kindOf, firstOf, secondOf, setOf, usesSecond, actionOf, known, commonRefusals, ownRefusals, refusals, first, after}
 use Rattle.algorithm.proofs.Refused.{NoneHold, Taken, taken, first-later}
 use Rattle.algorithm.proofs.Seen.{known-range}
 use Rattle.algorithm.proofs.Sound.{table-sound, here-sound}
+use Rattle.form.proofs.FormLaws.{knownKind, past, kind-known}
 use Rattle.table.proofs.BoolLaws.{is-true}
 use Rattle.table.specs.Layout.{tableIn}
 use Rattle.table.specs.Slice.{Holds, Within}
@@ -25,9 +26,6 @@ named a k = getD (kinds (firstOf a) (secondOf a) (setOf a)) k unknown
 
 -- ---- no refusal holds
 
-past : {n k : ℕ} → n ≤ k → (k ≡ n → ⊥) → suc n ≤ k
-past l n = omega arith
-
 module _ (t : Table) (a : List ℕ) (z : first (refusals t a) ≡ 0) where
   common : NoneHold (commonRefusals t a) × (first (ownRefusals t (actionOf a)) ≡ 0)
   unfolding refusals every
@@ -35,11 +33,7 @@ module _ (t : Table) (a : List ℕ) (z : first (refusals t a) ≡ 0) where
 
   -- the bytes are eight, and their kind is one of the eight
   formed : (length a ≡ 8) × (1 ≤ kindOf a) × (kindOf a ≤ 8)
-  formed =
-      let (_, (form, _)) = common .0 in
-      let (sized, most) = both {a = eqb (length a) 8 && leb 1 (kindOf a)} (refuted form) in
-      let (eight, some) = both {a = eqb (length a) 8} sized in
-      (equal eight, at-most some, at-most most)
+  formed = let (_, (form, _)) = common .0 in kind-known a (refuted {b = knownKind a} form .yes)
 
   pub sized : length a ≡ 8
   sized = formed .0

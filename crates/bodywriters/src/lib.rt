@@ -6,7 +6,7 @@ ghost use lib.ListN.{length};
 ghost use Rattle.algorithm.specs.Table.{count, server};
 ghost use Rattle.words.specs.Words.{bytes};
 ghost use Rattle.table.specs.Layout.{terms, tableIn};
-ghost use Rattle.table.specs.Slice.{Held, Within};
+ghost use Rattle.table.specs.Slice.{Within};
 ghost use Rattle.texts.specs.Buffer.{Wrote};
 ghost use Rattle.image.specs.Image.{half, marksBody, serverBody};
 ghost use Rattle.bodywriters.specs.Written.{bodyOf, figuresBody, Savable};

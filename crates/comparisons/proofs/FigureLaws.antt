@@ -14,9 +14,6 @@ module _ (x y a b : ℕ) (e : x ≡ a) (f : y ≡ b) where
 pub other-told : (x a y : ℕ) → x ≡ a → not (eqb x y) ≡ not (eqb a y)
 other-told x a y e = rw e
 
-pub both-told : (x y a b : Bool) → x ≡ a → y ≡ b → (x && y) ≡ (a && b)
-both-told x y a b e f = rw (e, f)
-
 pub later-told : (r : Bool) (x y z w a b c d : ℕ) → r ≡ (ltb z x || eqb x z && ltb w y) → x ≡ a → y ≡ b → z ≡ c → w ≡ d
     → r ≡ (ltb c a || eqb a c && ltb d b)
 later-told r x y z w a b c d o e f g h = rw (o, e, f, g, h)

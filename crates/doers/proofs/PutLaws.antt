@@ -1,29 +1,17 @@
 -- What a slice holds once a row was read and one or several of its figures were put. Assumes nothing.
-use Prim.Native.Nat.{ℕ, zero, suc, _+_, _≤_}
-use native.Mathlib.Omega.{arith}
-use mathlib.Core.Path.{_≡_, refl, _∙_}
+use Prim.Native.Nat.{ℕ, _+_, _≤_}
+use mathlib.Core.Path.{_≡_, _∙_}
 use mathlib.Core.List.{List, [], _∷_, _++_}
 use lib.ListN.{length}
-use lib.Seq.{getD-set-same, set-set}
-use Rattle.algorithm.specs.Table.{Server, nth, replace, server, absent, termAt}
+use Rattle.algorithm.specs.Table.{Server, server, absent, termAt}
 use Rattle.algorithm.specs.Actions.{withServer, withConfig, withLog, steppedDown, spreadAfter, sendAfter, reconfigureAfter, writeAfter, fetchAfter, commitAfter}
 use Rattle.table.specs.declared.rows.Row.{Row}
 use Rattle.table.specs.Layout.{tableIn}
 use Rattle.table.specs.Slice.{Holds, Held, Became, Within, withRole, withTerm, withMark, seen}
+use Rattle.table.proofs.ListLaws.{nth-replaced, replace-replace}
 use Rattle.table.proofs.HeldLaws.{its-table, its-room}
 
 -- ---- one put after another
-
-module _ {A : Type 0} where
-  replace-twice : (l : List A) (i : ℕ) (x y : A) → replace (replace l i x) i y ≡ replace l i y
-  unfolding replace
-  replace-twice l zero x y = refl
-  replace-twice l (suc k) x y = set-set l k x y
-
-  nth-replaced : (l : List A) (i : ℕ) (x d : A) → 1 ≤ i → i ≤ length l → nth (replace l i x) i d ≡ x
-  unfolding nth replace
-  nth-replaced l zero x d h k = absurd (omega arith)
-  nth-replaced l (suc n) x d h k = getD-set-same l n x d k
 
 -- a put on the row of a server that was put before
 pub then-put : {b b₁ b₂ : List ℕ} {i : ℕ} (s : Server) (f : Server → Server) → Within b i → Became b b₁ (withServer (tableIn b) i s)
@@ -31,7 +19,7 @@ pub then-put : {b b₁ b₂ : List ℕ} {i : ℕ} (s : Server) (f : Server → S
 then-put {b} {b₁} {b₂} {i} s f w h k =
     let t = tableIn b in
     let same : withServer (tableIn b₁) i (f (server (tableIn b₁) i)) ≡ withServer t i (f s) =
-    rw (its-table (h .holds), nth-replaced (t .servers) i s absent (w .some) (w .known), replace-twice (t .servers) i s (f s)) in
+    rw (its-table (h .holds), nth-replaced (t .servers) i s absent (w .some) (w .known), replace-replace (t .servers) i s (f s)) in
     record { holds = rw same at (k .holds); held = k .held; same = k .same ∙ h .same }
 
 pub standing-put : (b b₁ b₂ : List ℕ) (s role v : ℕ) → Within b s → Became b b₁ (withServer (tableIn b) s (withTerm v (server (tableIn b) s)))

@@ -6,7 +6,7 @@ use mathlib.Core.List.{List, [], _∷_, _++_}
 use lib.Dec.{T, eqb}
 use borrow.Author.Tests.{eq-eqb, ne-eqb}
 use mir.Facts.{and-yes, eqb-no}
-use Rattle.members.proofs.Tests.{Fails}
+use Rattle.members.proofs.Tests.{fails-false, false-fails}
 use Rattle.algorithm.specs.Table.{every, count}
 use Rattle.algorithm.specs.Actions.{Refusal}
 use Rattle.algorithm.specs.Refusals.{formRefusals, ownRefusals, refusals, first, actionOf, after}
@@ -84,9 +84,5 @@ module _ (b a : List ℕ) (h : Ready b) (n f : ℕ) (counts : n ≡ count (table
         record {
           number = sym e;
           table = rw done w;
-          ready = record { held = held w; sound = rw (its-table w, ← done) (unbroken (step-sound (tableIn b) a (record { no = rw (h .sound) tt }))) };
+          ready = record { held = held w; sound = rw (its-table w, ← done) (fails-false (step-sound (tableIn b) a (false-fails (h .sound)))) };
         }
-      where
-        unbroken : {x : Bool} → Fails x → x ≡ false
-        unbroken {x = true} h = absurd (h .no)
-        unbroken {x = false} h = refl

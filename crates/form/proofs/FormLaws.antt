@@ -24,6 +24,10 @@ other-length a n = rw (ne-eqb (length a) 8 n)
 pub eight-bytes : (a : List ℕ) → length a ≡ 8 → not (leb 1 (kindOf a) && leb (kindOf a) 8) ≡ holdsIn 2 (formRefusals 0 a)
 eight-bytes a e = rw (eq-eqb (length a) 8 e)
 
+-- a kind that is not the least it may be is more
+pub past : {n k : ℕ} → n ≤ k → (k ≡ n → ⊥) → suc n ≤ k
+past l h = omega arith
+
 pub kind-known : (a : List ℕ) → T (knownKind a) → (length a ≡ 8) × (1 ≤ kindOf a) × (kindOf a ≤ 8)
 kind-known a h =
     let (x, y) = and-yes (eqb (length a) 8 && leb 1 (kindOf a)) (leb (kindOf a) 8) h in

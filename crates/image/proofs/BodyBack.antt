@@ -7,15 +7,15 @@ use mathlib.Core.List.{List, [], _∷_}
 use lib.Dec.{leb, eqb, le→leb}
 use lib.ListN.{length, length-map}
 use borrow.Author.Tests.{ne-eqb}
-use Rattle.members.proofs.Tests.{Passes, both, together, at-most}
-use Rattle.algorithm.specs.Table.{Entry, Log, Server, nth, every, ceiling, soundServer, kept, trimmed}
+use Rattle.members.proofs.Tests.{Passes, together}
+use Rattle.algorithm.specs.Table.{Entry, Server, nth, every, ceiling, soundServer, kept, trimmed}
 use Rattle.algorithm.proofs.Lists.{every-cons, cons-every}
 use Rattle.algorithm.proofs.Sound.{SoundServer, server-sound}
 use Rattle.words.specs.Words.{wordOf, words, between}
 use Rattle.table.specs.Layout.{padded, terms, entries}
-use Rattle.words.proofs.WordLaws.{FourBytes, length-bytes, words-bytes, words-between}
+use Rattle.words.proofs.WordLaws.{length-bytes, words-bytes, words-between}
 use Rattle.table.proofs.LayoutLaws.{entries-terms}
-use Rattle.table.proofs.SoundLaws.{terms-sound}
+use Rattle.table.proofs.SoundLaws.{words-log}
 use Rattle.image.specs.Image.{marksBody, serverBody}
 use Rattle.bodies.specs.Bodies.{marksIn, serverIn, soundMarksBody, soundServerBody}
 use Rattle.image.proofs.ImageLaws.{half-back}
@@ -101,10 +101,7 @@ module _ (n : ℕ) (s : Server) (h : Passes (soundServer n s)) (small : s .confi
   unfolding words
   words-server =
       ap (λ (l : List ℕ). wordOf (s .role) 0 (s .config .set % 256) (s .config .set / 256 % 256) ∷ l)
-      (words-bytes (numbers s) (omega (arith, rules .term), (omega (arith, rules .config .version), (omega (arith, rules .config .term), log))))
-    where
-      log : FourBytes (terms (s .log))
-      log = words-between 1 (terms (s .log)) (subst Passes (terms-sound (s .log)) (rules .entries))
+      (words-bytes (numbers s) (omega (arith, rules .term), (omega (arith, rules .config .version), (omega (arith, rules .config .term), words-log (s .log) (rules .entries)))))
 
   pub server-back : serverIn (serverBody s) ≡ s
   server-back = rw (words-server, half-back (s .config .set) small, entries-terms (s .log))

@@ -1,5 +1,5 @@
 -- What an action is whose form is in order. Assumes nothing.
-use Prim.Native.Nat.{ℕ, suc, _≤_, _<_}
+use Prim.Native.Nat.{ℕ, _≤_, _<_}
 use native.Mathlib.Nat.{le-antisymm}
 use native.Mathlib.Omega.{arith}
 use mathlib.Core.Path.{_≡_}
@@ -13,7 +13,7 @@ use Rattle.algorithm.specs.Refusals.{formRefusals, kindOf, firstOf, secondOf, s
 use Rattle.algorithm.proofs.Refused.{NoneHold, first-later}
 use Rattle.table.specs.Layout.{tableIn}
 use Rattle.table.specs.Slice.{Within}
-use Rattle.form.proofs.FormLaws.{knownKind, kind-known}
+use Rattle.form.proofs.FormLaws.{knownKind, past, kind-known}
 
 -- what refusal 4 denies
 abbrev knownServers : ℕ → List ℕ → Bool
@@ -61,13 +61,10 @@ pub of-kind : (t : Table) (x k i j m r : ℕ) → k ≡ x → r ≡ first (ownRe
     → r ≡ first (ownRefusals t (getD (kinds i j m) k unknown))
 of-kind t x k i j m r e h = rw e h
 
-above : {n k : ℕ} → n ≤ k → (k ≡ n → ⊥) → suc n ≤ k
-above h d = omega arith
-
 pub last-kind : (t : Table) (k i j m r : ℕ) → (1 ≤ k) × (k ≤ 8) → (k ≡ 1 → ⊥) → (k ≡ 2 → ⊥) → (k ≡ 3 → ⊥) → (k ≡ 4 → ⊥) → (k ≡ 5 → ⊥)
     → (k ≡ 6 → ⊥) → (k ≡ 7 → ⊥) → r ≡ first (commitRefusals t i m) → r ≡ first (ownRefusals t (getD (kinds i j m) k unknown))
 last-kind t k i j m r h a b c d e f g o =
-    of-kind t 8 k i j m r (le-antisymm (h .1) (above (above (above (above (above (above (above (h .0) a) b) c) d) e) f) g)) o
+    of-kind t 8 k i j m r (le-antisymm (h .1) (past (past (past (past (past (past (past (h .0) a) b) c) d) e) f) g)) o
 
 pub with-set : (t : Table) (a : List ℕ) (m r : ℕ) → m ≡ setOf a → r ≡ first (ownRefusals t (getD (kinds (firstOf a) (secondOf a) m) (kindOf a) unknown))
     → r ≡ first (ownRefusals t (actionOf a))

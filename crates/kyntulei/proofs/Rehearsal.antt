@@ -1,14 +1,14 @@
 -- Demand 3 of the exported functions: whatever plan is run on a slice that was filled with a fresh table, it holds of the replies and of
 -- the table in the slice at exit. Assumes nothing.
 use Prim.Native.Nat.{ℕ, _≤_, _<_}
-use mathlib.Core.Bool.{Bool, true, false}
+use mathlib.Core.Bool.{false}
 use mathlib.Core.List.{List, []}
 use mathlib.Core.Logic.{_≢_}
-use mathlib.Core.Path.{_≡_, refl, sym, _∙_}
+use mathlib.Core.Path.{_≡_, sym, _∙_}
 use native.Mathlib.Omega.{arith}
 use lib.Dec.{T}
 use lib.ListN.{getD, drop, List·getD-append}
-use Rattle.members.proofs.Tests.{Fails, refuted, both, at-most}
+use Rattle.members.proofs.Tests.{Fails, refuted, both, fails-false, false-fails, at-most}
 use Rattle.algorithm.specs.Table.{every, server, primary, mark, broken, fresh}
 use Rattle.algorithm.specs.Comparisons.{held}
 use Rattle.algorithm.specs.Run.{pieces, runTo}
@@ -23,13 +23,6 @@ use Rattle.whole.proofs.Determined.{stored-whole}
 use Rattle.engine.specs.Engine.{played}
 use Rattle.kyntulei.specs.Promise.{freshRefusals, freshReply, freshBytes, runReplies, runBytes}
 
-is-false : {x : Bool} → Fails x → x ≡ false
-is-false {x = true} h = absurd (h .no)
-is-false {x = false} h = refl
-
-fails-of : {x : Bool} → x ≡ false → Fails x
-fails-of e = record { no = rw e tt }
-
 module _ (b : List ℕ) (n m : ℕ) (is-done : freshReply b n m ≡ 0) where
   -- the bytes that were filled are those of a fresh table
   filled : freshBytes b n m ≡ stored (fresh n m)
@@ -40,7 +33,7 @@ module _ (b : List ℕ) (n m : ℕ) (is-done : freshReply b n m ≡ 0) where
   sound =
       let ((_, (servers, (sets, _))), _) = first-later 0 (freshRefusals b n m) [] tt is-done in
       let (some, few) = both (refuted servers) in
-      is-false (fresh-sound n m (at-most some) (at-most few) (refuted sets))
+      fails-false (fresh-sound n m (at-most some) (at-most few) (refuted sets))
 
   module _ (p r : List ℕ) where
     -- as many actions as were played
@@ -57,7 +50,7 @@ module _ (b : List ℕ) (n m : ℕ) (is-done : freshReply b n m ≡ 0) where
     pub exit-table : tableIn b' ≡ runTo k (fresh n m) p .table
     exit-table =
         rw (filled, stored-whole (fresh n m) sound, stored-table (fresh n m) sound)
-        (stored-table (runTo k (fresh n m) p .table) (is-false (play-keeps (λ t. Fails (broken t)) step-sound (fresh n m) (pieces k p) (fails-of sound))))
+        (stored-table (runTo k (fresh n m) p .table) (fails-false (play-keeps (λ t. Fails (broken t)) step-sound (fresh n m) (pieces k p) (false-fails sound))))
 
     pub exit-replies : (j : ℕ) → j < k → getD r' j 0 ≡ getD (runTo k (fresh n m) p .replies) j 0
     exit-replies j h =

@@ -2,7 +2,7 @@
 use Prim.Native.Nat.{ℕ, _≤_, _<_}
 use mathlib.Core.Bool.{Bool, true, false, not, _&&_, _||_}
 use mathlib.Core.Logic.{_≢_, _⊎_, inl, inr, ⊎-elim}
-use mathlib.Core.Path.{_≡_}
+use mathlib.Core.Path.{_≡_, refl}
 use lib.Dec.{T, leb, ltb, eqb, leb→le, nleb→lt, ltb→lt, nltb→le, eqb→eq, le→leb, lt→ltb}
 use mir.Facts.{and-yes, yes-and, or-yes, or-no, T-not, not-T, T-not-not, eqb-no, yes-eqb}
 
@@ -49,6 +49,17 @@ module _ {b : Bool} where
 
   pub fails : (Passes b → ⊥) → Fails b
   fails f = record { no = not-T b (λ t. f (record { yes = t })) }
+
+pub fails-false : {b : Bool} → Fails b → b ≡ false
+fails-false {b = true} h = absurd (h .no)
+fails-false {b = false} h = refl
+
+pub false-fails : {b : Bool} → b ≡ false → Fails b
+false-fails e = record { no = rw e tt }
+
+-- two tests whose answers are known, joined
+pub and-told : (r s a b : Bool) → r ≡ a → s ≡ b → (r && s) ≡ (a && b)
+and-told r s a b e f = rw (e, f)
 
 pub passes-or-fails : (b : Bool) → Passes b ⊎ Fails b
 passes-or-fails true = inl (record { yes = tt })

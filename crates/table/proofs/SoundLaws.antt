@@ -54,6 +54,9 @@ words-padded zero l h = tt
 words-padded (suc k) [] h = (omega arith, words-padded k [] tt)
 words-padded (suc k) (x ∷ l) h = (h .0, words-padded k l (h .1))
 
+pub words-log : (l : Log) → Passes (every soundEntry l) → FourBytes (terms l)
+words-log l h = words-between 1 (terms l) (subst Passes (terms-sound l) h)
+
 module _ {n : ℕ} (few : n ≤ 16) where
   small : (m : ℕ) → Passes (within m n) → m < 65536
   small m h = omega (arith, less {a = m} {b = 2 ^ n} (both {a = ltb 0 m} h .1), pow-mono {i = n} {j = 16} few)
@@ -74,14 +77,11 @@ module _ {n : ℕ} (few : n ≤ 16) where
         omega (arith, small (s .config .set) (h .config .set)),
         (
           omega (arith, h .config .version),
-          (omega (arith, h .config .term), (omega (arith, h .short), words-padded 64 (terms (s .log)) log)),
+          (omega (arith, h .config .term), (omega (arith, h .short), words-padded 64 (terms (s .log)) (words-log (s .log) (h .entries)))),
         ),
       ),
     ),
   )
-    where
-      log : FourBytes (terms (s .log))
-      log = words-between 1 (terms (s .log)) (subst Passes (terms-sound (s .log)) (h .entries))
 
   words-rows : (k : ℕ) (ss : List Server) → Passes (every (soundServer n) ss) → FourBytes (rows k ss)
   unfolding rows

@@ -1,6 +1,7 @@
 -- `comparisons::same_config` meets its contract. Assumes nothing.
 use borrow.Author.Needs.{needs}
-use Rattle.comparisons.proofs.FigureLaws.{equal-told, both-told}
+use Rattle.members.proofs.Tests.{and-told}
+use Rattle.comparisons.proofs.FigureLaws.{equal-told}
 use Rattle.comparisons.proofs.same_config.Statement.{statement}
 use Rattle.comparisons.proofs.same_config.Tie as tie
 
@@ -17,7 +18,7 @@ config-of-requires-2 : tie.Need-config-of-requires-2
 config-of-requires-2 c κs = search needs
 
 returns : tie.Need-returns
-returns c = search (needs, equal-told, both-told)
+returns c = search (needs, equal-told, and-told)
 
 pub same-config-spec : {M : Type 1} → statement M
 same-config-spec =
