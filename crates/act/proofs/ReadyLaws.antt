@@ -2,27 +2,28 @@
 use Prim.Native.Nat.{ℕ, _≤_, _<_}
 use native.Mathlib.Omega.{arith}
 use mathlib.Core.Path.{_≡_, refl, subst}
-use mathlib.Core.Logic.{_≢_, ⊎-elim}
-use mathlib.Core.Bool.{true, not, _&&_, _||_}
+use mathlib.Core.Logic.{_≢_}
+use mathlib.Core.Bool.{true, not}
 use mathlib.Core.List.{List, [], _∷_}
-use lib.Dec.{T, ltb, eqb}
+use lib.Dec.{ltb, eqb}
 use lib.ListN.{length, getD}
 use Rattle.members.specs.Members.{within}
-use Rattle.members.proofs.Tests.{Passes, Fails, both, either, neither, refuted, contradiction, unequal, less, above}
+use Rattle.members.proofs.Tests.{Fails, neither, both-refuted, unequal, less, above}
 use Rattle.algorithm.specs.Table.{Log, Table, every, count, server, ceiling, positions}
 use Rattle.algorithm.specs.Comparisons.{last, prefix}
-use Rattle.algorithm.specs.Refusals.{Action, unknown, kinds, kindOf, firstOf, secondOf, setOf, usesSecond, actionOf, known, commonRefusals, ownRefusals, refusals, first, after}
+use Rattle.algorithm.specs.Actions.{kindOf, iOf, jOf, setOf, usesJ, Action, unknown, kinds, actionOf, joins, after}
+use Rattle.algorithm.specs.Refusals.{formRefusals, commonRefusals, ownRefusals, refusals, first}
 use Rattle.algorithm.proofs.Refused.{NoneHold, Taken, taken, first-later}
-use Rattle.algorithm.proofs.Seen.{known-range}
 use Rattle.algorithm.proofs.Sound.{table-sound, here-sound}
-use Rattle.form.proofs.FormLaws.{knownKind, past, kind-known}
+use Rattle.form.proofs.FormLaws.{past, kind-known, has-byte, i-known, j-known}
+use Rattle.table.proofs.HeldLaws.{known-within}
 use Rattle.table.proofs.BoolLaws.{is-true}
 use Rattle.table.specs.Layout.{tableIn}
 use Rattle.table.specs.Slice.{Holds, Within}
 
 -- the action of kind k that the other bytes name
 abbrev pub named : List ℕ → ℕ → Action
-named a k = getD (kinds (firstOf a) (secondOf a) (setOf a)) k unknown
+named a k = getD (kinds (iOf a) (jOf a) (setOf a)) k unknown
 
 -- ---- no refusal holds
 
@@ -31,29 +32,26 @@ module _ (t : Table) (a : List ℕ) (z : first (refusals t a) ≡ 0) where
   unfolding refusals every
   common = first-later 0 (commonRefusals t a) (ownRefusals t (actionOf a)) tt z
 
-  -- the bytes are eight, and their kind is one of the eight
-  formed : (length a ≡ 8) × (1 ≤ kindOf a) × (kindOf a ≤ 8)
-  formed = let (_, (form, _)) = common .0 in kind-known a (refuted {b = knownKind a} form .yes)
+  form : NoneHold (formRefusals (count t) a)
+  form = common .0 .1
 
   pub sized : length a ≡ 8
-  sized = formed .0
+  sized = kind-known (count t) a form .0
 
-  pub has-byte : (k : ℕ) → k < 8 → k < length a
-  has-byte k l = omega (arith, formed)
+  pub reads : (k : ℕ) → k < 8 → k < length a
+  reads = has-byte (count t) a form
 
   pub no-other : (kindOf a ≡ 1 → ⊥) → (kindOf a ≡ 2 → ⊥) → (kindOf a ≡ 3 → ⊥) → (kindOf a ≡ 4 → ⊥) → (kindOf a ≡ 5 → ⊥) → (kindOf a ≡ 6 → ⊥)
       → (kindOf a ≡ 7 → ⊥) → (kindOf a ≡ 8 → ⊥) → ⊥
   no-other n₁ n₂ n₃ n₄ n₅ n₆ n₇ n₈ =
-      let beyond : 9 ≤ kindOf a = past (past (past (past (past (past (past (past (formed .1) n₁) n₂) n₃) n₄) n₅) n₆) n₇) n₈ in
-      omega (arith, formed)
+      let (_, least, most) = kind-known (count t) a form in
+      let beyond : 9 ≤ kindOf a = past (past (past (past (past (past (past (past least n₁) n₂) n₃) n₄) n₅) n₆) n₇) n₈ in
+      omega arith
 
   named-taken : (k : ℕ) → kindOf a ≡ k → Taken t (named a k)
   named-taken k e = subst (λ (x : ℕ). Taken t (named a x)) e (taken t a z)
 
 -- ---- what that says of the table
-
-known-within : {b : List ℕ} {i : ℕ} → Passes (known (count (tableIn b)) i) → Within b i
-known-within h = let (some, known) = known-range h in record { some = some; known = known }
 
 below-top : {n : ℕ} → Fails (eqb n ceiling) → n ≤ ceiling → n < ceiling
 below-top {n} h l = let other : n ≢ ceiling = unequal h in omega arith
@@ -68,70 +66,67 @@ module _ (b a : List ℕ) (z : first (refusals (tableIn b) a) ≡ 0) where
   abbrev table : Table
   table = tableIn b
 
-  numbers : Passes (known (count table) (firstOf a) && (not (usesSecond (kindOf a)) || known (count table) (secondOf a)))
-  numbers = let (_, (_, (_, (servers, _)))) = common table a z .0 in refuted servers
+  pub i-within : Within b (iOf a)
+  i-within = known-within (i-known (count table) a (form table a z))
 
-  pub first-within : Within b (firstOf a)
-  first-within = known-within (both {a = known (count table) (firstOf a)} numbers .0)
-
-  pub second-within : (k : ℕ) → kindOf a ≡ k → T (usesSecond k) → Within b (secondOf a)
-  second-within k e u =
-      ⊎-elim (λ n. absurd (contradiction {b = usesSecond (kindOf a)} (record { no = n .yes }) (record { yes = rw e u }))) known-within
-      (either {a = not (usesSecond (kindOf a))} (both {a = known (count table) (firstOf a)} numbers .1))
+  pub j-within : (k : ℕ) → kindOf a ≡ k → usesJ k ≡ true → Within b (jOf a)
+  j-within k e u = known-within (j-known (count table) a (form table a z) (rw e u))
 
   -- ---- what the kinds ask
 
-  pub elect-below : kindOf a ≡ 1 → server table (firstOf a) .term < ceiling
+  pub elect-below : kindOf a ≡ 1 → server table (iOf a) .term < ceiling
   unfolding every
   elect-below e =
       let k = named-taken table a z 1 e in
       let (_, (_, (_, (_, (top, _))))) = k .own in
-      below-top top (here-sound (table-sound (k .sound)) (firstOf a) (k .fit .0) .term)
+      below-top top (here-sound (table-sound (k .sound)) (iOf a) (k .fit .0) .term)
 
   pub elect-within : (q : ℕ) → q ≡ setOf a → kindOf a ≡ 1 → within q (count table) ≡ true
   unfolding every
   elect-within q f e = rw f (is-true (within (setOf a) (count table)) (named-taken table a z 1 e .fit .1 .yes))
 
-  pub reconfigure-below : kindOf a ≡ 2 → server table (firstOf a) .config .version < ceiling
+  pub reconfigure-below : kindOf a ≡ 2 → server table (iOf a) .config .version < ceiling
   unfolding every
   reconfigure-below e =
       let k = named-taken table a z 2 e in
       let (_, (top, _)) = k .own in
-      below-top top (here-sound (table-sound (k .sound)) (firstOf a) (k .fit .0) .config .version)
+      below-top top (here-sound (table-sound (k .sound)) (iOf a) (k .fit .0) .config .version)
 
-  pub write-room : kindOf a ≡ 5 → length (server table (firstOf a) .log) < positions
+  pub write-room : kindOf a ≡ 5 → length (server table (iOf a) .log) < positions
   unfolding every
   write-room e = let (_, (full, _)) = named-taken table a z 5 e .own in above full
 
-  pub fetch-room : kindOf a ≡ 6 → length (server table (firstOf a) .log) < positions
+  pub fetch-room : kindOf a ≡ 6 → length (server table (iOf a) .log) < positions
   unfolding every
   fetch-room e =
       let k = named-taken table a z 6 e in
       let (_, (goes-on, _)) = k .own in
-      let longer : length (server table (firstOf a) .log) < length (server table (secondOf a) .log) = less (both (refuted goes-on) .0) in
-      omega (arith, here-sound (table-sound (k .sound)) (secondOf a) (k .fit .1) .short)
+      let l = server table (iOf a) .log in
+      let m = server table (jOf a) .log in
+      let longer : length l < length m = less (both-refuted {a = ltb (length l) (length m)} {b = joins l m} goes-on .0) in
+      omega (arith, here-sound (table-sound (k .sound)) (jOf a) (k .fit .1) .short)
 
-  pub roll-back-some : kindOf a ≡ 7 → 1 ≤ length (server table (firstOf a) .log)
+  pub roll-back-some : kindOf a ≡ 7 → 1 ≤ length (server table (iOf a) .log)
   unfolding every
   roll-back-some e =
       let (_, (behind, _)) = named-taken table a z 7 e .own in
-      let l = server table (firstOf a) .log in
-      let m = server table (secondOf a) .log in
+      let l = server table (iOf a) .log in
+      let m = server table (jOf a) .log in
       not-prefix l m (neither {a = not (ltb (last l) (last m))} behind .1)
 
-  pub commit-some : kindOf a ≡ 8 → 1 ≤ length (server table (firstOf a) .log)
+  pub commit-some : kindOf a ≡ 8 → 1 ≤ length (server table (iOf a) .log)
   unfolding every
   commit-some e =
       let (_, (_, (entry, _))) = named-taken table a z 8 e .own in
-      let some : length (server table (firstOf a) .log) ≢ 0 = unequal (neither entry .0) in
+      let some : length (server table (iOf a) .log) ≢ 0 = unequal (neither entry .0) in
       omega arith
 
 -- ---- the table after the action
 
 -- where its set was read as q
 pub did-by : (b a : List ℕ) (t : Table) (k q : ℕ) → kindOf a ≡ k → q ≡ setOf a
-    → Holds b (after t (getD (kinds (firstOf a) (secondOf a) q) k unknown)) → Holds b (after t (actionOf a))
-did-by b a t k q e f h = rw e (subst (λ (m : ℕ). Holds b (after t (getD (kinds (firstOf a) (secondOf a) m) k unknown))) f h)
+    → Holds b (after t (getD (kinds (iOf a) (jOf a) q) k unknown)) → Holds b (after t (actionOf a))
+did-by b a t k q e f h = rw e (subst (λ (m : ℕ). Holds b (after t (getD (kinds (iOf a) (jOf a) m) k unknown))) f h)
 
 pub did : (b a : List ℕ) (t : Table) (k : ℕ) → kindOf a ≡ k → Holds b (after t (named a k)) → Holds b (after t (actionOf a))
 did b a t k e h = did-by b a t k (setOf a) e refl h

@@ -1,6 +1,6 @@
 -- Where the invariants hold, no action is refused with 24. Assumes nothing.
 use Prim.Native.Nat.{ℕ}
-use mathlib.Core.Bool.{Bool, true, false, not, _||_}
+use mathlib.Core.Bool.{Bool, true, false, not, _&&_, _||_}
 use mathlib.Core.List.{List, [], _∷_, _++_, append-nil}
 use mathlib.Core.Logic.{_≢_}
 use mathlib.Core.Path.{_≡_, refl, subst}
@@ -10,8 +10,8 @@ use lib.Dec.{T, eqb}
 use lib.ListN.{length, take, drop}
 use Rattle.members.proofs.Tests.{Passes, first-of, second-of, is-equal}
 use Rattle.algorithm.specs.Table.{Table, every, count, server, mark}
-use Rattle.algorithm.specs.Actions.{Refusal, refuse, electRefusals, reconfigureRefusals, sendRefusals, spreadRefusals, writeRefusals, fetchRefusals, rollBackRefusals, commitRefusals}
-use Rattle.algorithm.specs.Refusals.{Action, unknown, elect, reconfigure, send, spread, write, fetch, rollBack, commit, actionOf, commonRefusals, ownRefusals, refusals, first}
+use Rattle.algorithm.specs.Actions.{Refusal, refuse, electRefusals, reconfigureRefusals, sendRefusals, spreadRefusals, writeRefusals, fetchRefusals, rollBackRefusals, commitRefusals, Action, unknown, elect, reconfigure, send, spread, write, fetch, rollBack, commit, actionOf}
+use Rattle.algorithm.specs.Refusals.{commonRefusals, ownRefusals, refusals, first}
 use Rattle.algorithm.specs.Run.{step}
 use Rattle.algorithm.proofs.Refused.{Fits, first-later, common-fit}
 use Rattle.algorithm.proofs.Full.{CanCommit}
@@ -28,7 +28,7 @@ unnumbered rs h z = omega (arith, first-later 24 rs [] h (rw append-nil z) .1)
 -- the position of a commit is free, or marked with the same term, so that the last refusal of a commit does not hold
 not-last : (t : Table) → Safe (view t) → (i q : ℕ) → CanCommit (view t) i q → first (drop 4 (commitRefusals t i q)) ≡ 24 → ⊥
 unfolding first
-not-last t safe i q can z = go (eqb u 0 || eqb u (server t i .term)) (free-or-same (ℕ-discrete u 0)) z
+not-last t safe i q can z = go (eqb u 0) (eqb u (server t i .term)) (free-or-same (ℕ-discrete u 0)) z
   where
     u : ℕ
     u = mark t (length (server t i .log))
@@ -38,9 +38,10 @@ not-last t safe i q can z = go (eqb u 0 || eqb u (server t i .term)) (free-or-sa
     free-or-same (no z) =
         second-of (eqb u 0) (is-equal (marked-so (view t) (safe .configs) (safe .logs) i q can (record { is = refl; positive = omega arith })))
 
-    go : (b : Bool) → Passes b → first (refuse 24 (not b) ∷ []) ≡ 24 → ⊥
-    go true h z = omega arith
-    go false h z = absurd (h .yes)
+    go : (a b : Bool) → Passes (a || b) → first (refuse 24 (not a && not b) ∷ []) ≡ 24 → ⊥
+    go true b h z = omega arith
+    go false true h z = omega arith
+    go false false h z = absurd (h .yes)
 
 module _ (t : Table) (safe : Safe (view t)) (a : List ℕ) where
   -- 24 is the last that a commit looks at, and no other kind looks at it

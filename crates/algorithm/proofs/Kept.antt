@@ -5,13 +5,12 @@ use mathlib.Core.List.{List, [], _∷_, _++_}
 use mathlib.Core.Logic.{_≢_, inl, inr, ⊎-elim}
 use mathlib.Core.Path.{_≡_, refl, sym, subst}
 use native.Mathlib.Omega.{arith}
-use lib.Dec.{leb}
+use lib.Dec.{leb, ltb}
 use lib.ListN.{length, take, length-append, length-take, length-replicate}
 use Rattle.members.specs.Members.{within}
-use Rattle.members.proofs.Tests.{Passes, Fails, both, together, refuted, equal, unequal, less, above, is-at-most}
+use Rattle.members.proofs.Tests.{Passes, Fails, together, refuted, both-refuted, equal, unequal, less, above, is-at-most}
 use Rattle.algorithm.specs.Table.{Entry, Log, Table, every, count, server, primary, entryAt, ceiling, positions, soundEntry, soundServer, broken, freshServer, fresh}
-use Rattle.algorithm.specs.Actions.{withServer, withConfig, withLog, steppedDown, winner, nextConfig, appended}
-use Rattle.algorithm.specs.Refusals.{Action, unknown, elect, reconfigure, send, spread, write, fetch, rollBack, commit, actionOf, after}
+use Rattle.algorithm.specs.Actions.{withServer, withConfig, withLog, steppedDown, winner, nextConfig, appended, joins, Action, unknown, elect, reconfigure, send, spread, write, fetch, rollBack, commit, actionOf, after}
 use Rattle.algorithm.specs.Run.{step}
 use Rattle.algorithm.proofs.Lists.{every-nth, every-plus, every-take, every-replicate}
 use Rattle.algorithm.proofs.Refused.{Taken, outcome}
@@ -88,7 +87,7 @@ after-sound t (fetch i j) k =
     let (_, (goes-on, _)) = k .own in
     let l : Log = server t i .log in
     let m : Log = server t j .log in
-    let (first, _) = both (refuted goes-on) in
+    let (first, _) = both-refuted {a = ltb (length l) (length m)} {b = joins l m} goes-on in
     let longer : length l < length m = less first in
     appended-sound h i (here-sound h i (k .fit .0)) (entryAt m (length l + 1)) (omega (arith, b .short))
     (every-nth soundEntry m (length l + 1) (record { term = 0 }) (b .entries) (omega arith) (omega arith))

@@ -1,24 +1,25 @@
--- What a step does where no refusal holds, and where one does; runs joined. Assumes nothing.
+-- What a step does where no refusal holds, and where one does. Assumes nothing.
 use Prim.Native.Nat.{ℕ, zero, suc, _<_}
 use mathlib.Core.Bool.{Bool, true, false, cond, not, _&&_, _||_}
 use mathlib.Core.List.{List, [], _∷_, _++_, append-nil}
 use mathlib.Core.Logic.{_⊎_, inl, inr, ⊎-elim}
 use mathlib.Core.Path.{_≡_, refl}
 use native.Mathlib.Omega.{arith}
-use lib.Dec.{T, eqb}
+use lib.Dec.{T, ltb, eqb, ltb→lt, eqb→eq}
 use lib.ListN.{getD}
 use borrow.Author.Tests.{eqb-true}
-use mir.Facts.{and-yes, eqb-no}
+use mir.Facts.{and-yes, yes-and, not-T, eqb-no}
 use Rattle.members.specs.Members.{within}
-use Rattle.members.proofs.Tests.{Passes, Fails, both, refuted}
+use Rattle.members.proofs.Tests.{Passes, Fails, neither, refuted, both-refuted}
 use Rattle.algorithm.specs.Table.{Table, every, count, broken}
-use Rattle.algorithm.specs.Actions.{Refusal}
-use Rattle.algorithm.specs.Refusals.{Action, unknown, elect, reconfigure, send, spread, write, fetch, rollBack, commit, kinds, kindOf, firstOf, secondOf, setOf, usesSet, usesSecond, actionOf, known, commonRefusals, ownRefusals, refusals, first, after}
+use Rattle.algorithm.specs.Actions.{Refusal, Action, unknown, elect, reconfigure, send, spread, write, fetch, rollBack, commit, kinds, kindOf, iOf, jOf, setOf, usesSet, usesJ, actionOf, after}
+use Rattle.algorithm.specs.Refusals.{known, commonRefusals, ownRefusals, refusals, first}
 use Rattle.algorithm.specs.Run.{step}
-use Rattle.algorithm.specs.Demand.{stakes, wonBy}
+use Rattle.algorithm.specs.Demand.{wins, wonBy}
 
 -- ---- a list of refusals
 
+-- none of them holds
 abbrev pub NoneHold : List Refusal → Type 0
 NoneHold [] = Unit {0}
 NoneHold (r ∷ rs) = Fails (r .holds) × NoneHold rs
@@ -37,21 +38,41 @@ first-later k (r ∷ rs) later p e =
     go true here rest z = absurd (eqb-no here z)
     go false here rest z = let (n, f) = rest z in ((record { no = tt }, n), f)
 
+-- each number is larger than the one before it, the first one larger than k
+unfoldable pub rising : ℕ → List Refusal → Bool
+rising k [] = true
+rising k (r ∷ rs) = ltb k (r .number) && rising (r .number) rs
+
+own-rising : (t : Table) (a : Action) → T (rising 5 (ownRefusals t a))
+unfolding rising
+own-rising t unknown = tt
+own-rising t (elect i q) = tt
+own-rising t (reconfigure i m) = tt
+own-rising t (send i j) = tt
+own-rising t (spread i j) = tt
+own-rising t (write i) = tt
+own-rising t (fetch i j) = tt
+own-rising t (rollBack i j) = tt
+own-rising t (commit i q) = tt
+
+-- the refusals of an action stand lowest first, so that the first that holds is the lowest
+pub lowest-first : (t : Table) (a : List ℕ) → T (rising 0 (refusals t a))
+unfolding rising refusals
+lowest-first t a = own-rising t (actionOf a)
+
 -- no refusal has the number 0
-own-numbered : (t : Table) (a : Action) → T (every (λ r. not (eqb (r .number) 0)) (ownRefusals t a))
-unfolding every
-own-numbered t unknown = tt
-own-numbered t (elect i q) = tt
-own-numbered t (reconfigure i m) = tt
-own-numbered t (send i j) = tt
-own-numbered t (spread i j) = tt
-own-numbered t (write i) = tt
-own-numbered t (fetch i j) = tt
-own-numbered t (rollBack i j) = tt
-own-numbered t (commit i q) = tt
+numbered : (k : ℕ) (rs : List Refusal) → T (rising k rs) → T (every (λ r. not (eqb (r .number) 0)) rs)
+unfolding rising every
+numbered k [] h = tt
+numbered k (r ∷ rs) h =
+    let (here, rest) = and-yes (ltb k (r .number)) (rising (r .number) rs) h in
+    yes-and (not (eqb (r .number) 0)) (every (λ r. not (eqb (r .number) 0)) rs)
+    (not-T (eqb (r .number) 0) (λ z. omega (arith, ltb→lt k (r .number) here, eqb→eq (r .number) 0 z)))
+    (numbered (r .number) rs rest)
 
 -- ---- an action whose servers and set are those of a table of n servers
 
+-- its servers are known and its set is within n, as far as its kind uses them
 abbrev pub Fits : ℕ → Action → Type 0
 Fits n unknown = Unit {0}
 Fits n (elect i q) = Passes (known n i) × Passes (within q n)
@@ -63,17 +84,17 @@ Fits n (fetch i j) = Passes (known n i) × Passes (known n j)
 Fits n (rollBack i j) = Passes (known n i) × Passes (known n j)
 Fits n (commit i q) = Passes (known n i) × Passes (within q n)
 
-fits : (n k i j m : ℕ) → Passes (known n i && (not (usesSecond k) || known n j)) → Fails (usesSet k && not (within m n))
+fits : (n k i j m : ℕ) → Fails (not (known n i) || usesJ k && not (known n j)) → Fails (usesSet k && not (within m n))
     → Fits n (getD (kinds i j m) k unknown)
 fits n zero i j m a b = tt
-fits n (suc zero) i j m a b = (both a .0, refuted b)
-fits n (suc (suc zero)) i j m a b = (both a .0, refuted b)
-fits n (suc (suc (suc zero))) i j m a b = both a
-fits n (suc (suc (suc (suc zero)))) i j m a b = both a
-fits n (suc (suc (suc (suc (suc zero))))) i j m a b = both a .0
-fits n (suc (suc (suc (suc (suc (suc zero)))))) i j m a b = both a
-fits n (suc (suc (suc (suc (suc (suc (suc zero))))))) i j m a b = both a
-fits n (suc (suc (suc (suc (suc (suc (suc (suc zero)))))))) i j m a b = (both a .0, refuted b)
+fits n (suc zero) i j m a b = (refuted (neither a .0), refuted b)
+fits n (suc (suc zero)) i j m a b = (refuted (neither a .0), refuted b)
+fits n (suc (suc (suc zero))) i j m a b = both-refuted a
+fits n (suc (suc (suc (suc zero)))) i j m a b = both-refuted a
+fits n (suc (suc (suc (suc (suc zero))))) i j m a b = refuted (neither a .0)
+fits n (suc (suc (suc (suc (suc (suc zero)))))) i j m a b = both-refuted a
+fits n (suc (suc (suc (suc (suc (suc (suc zero))))))) i j m a b = both-refuted a
+fits n (suc (suc (suc (suc (suc (suc (suc (suc zero)))))))) i j m a b = (refuted (neither a .0), refuted b)
 fits n (suc (suc (suc (suc (suc (suc (suc (suc (suc k))))))))) i j m a b = tt
 
 -- ---- a step
@@ -87,27 +108,30 @@ pub record Taken (t : Table) (a : Action) : Type 0 where
 -- 1 to 5 do not hold: the table keeps the rules, and the action fits it
 pub common-fit : (t : Table) (a : List ℕ) → NoneHold (commonRefusals t a) → Fails (broken t) × Fits (count t) (actionOf a)
 common-fit t a (sound, (_, (_, (servers, (sets, _))))) =
-    (sound, fits (count t) (kindOf a) (firstOf a) (secondOf a) (setOf a) (refuted servers) sets)
+    (sound, fits (count t) (kindOf a) (iOf a) (jOf a) (setOf a) servers sets)
 
+-- an action that gets 0 is taken
 pub taken : (t : Table) (a : List ℕ) → first (refusals t a) ≡ 0 → Taken t (actionOf a)
 unfolding refusals every
 taken t a e =
     let (form, later) = first-later 0 (commonRefusals t a) (ownRefusals t (actionOf a)) tt e in
-    let (own, _) = first-later 0 (ownRefusals t (actionOf a)) [] (own-numbered t (actionOf a)) (rw append-nil later) in
+    let (own, _) = first-later 0 (ownRefusals t (actionOf a)) [] (numbered 5 (ownRefusals t (actionOf a)) (own-rising t (actionOf a))) (rw append-nil later) in
     let (sound, fit) = common-fit t a form in
     record { sound = sound; fit = fit; own = own }
 
--- a step is taken, and gives the table after its action; or is refused, and the table is the same
+-- a step that is taken gives the table after its action
 pub record Done (t : Table) (a : List ℕ) : Type 0 where
   pub taken : Taken t (actionOf a)
   pub number : step t a .number ≡ 0
   pub table : step t a .table ≡ after t (actionOf a)
-  pub won : wonBy t a ≡ stakes t (actionOf a)
+  pub won : wonBy t a ≡ wins t (actionOf a)
 
+-- a step that is not gives the same table
 pub record Rested (t : Table) (a : List ℕ) : Type 0 where
   pub table : step t a .table ≡ t
   pub won : wonBy t a ≡ []
 
+-- every step is one or the other
 pub outcome : (t : Table) (a : List ℕ) → Done t a ⊎ Rested t a
 unfolding step wonBy
 outcome t a = go (eqb (first (refusals t a)) 0) refl

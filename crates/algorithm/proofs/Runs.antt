@@ -7,9 +7,9 @@ use native.Mathlib.Numerals.{add-one}
 use native.Mathlib.Omega.{arith}
 use lib.ListN.{length, take, drop, length-append, length-drop}
 use lib.Seq.{take-append-le, drop-append-le, drop-drop}
-use Rattle.members.proofs.Tests.{Fails, either, neither, refuted, equal, unequal}
+use Rattle.members.proofs.Tests.{Fails, neither, one-refuted, equal, unequal}
 use Rattle.algorithm.specs.Table.{Table, broken, server, mark}
-use Rattle.algorithm.specs.Refusals.{Action, unknown, elect, reconfigure, send, spread, write, fetch, rollBack, commit, actionOf, after}
+use Rattle.algorithm.specs.Actions.{Action, unknown, elect, reconfigure, send, spread, write, fetch, rollBack, commit, actionOf, after}
 use Rattle.algorithm.specs.Run.{step, pieces, pieceCount, Ran, play, runTo, run}
 use Rattle.algorithm.proofs.Choice.{put-elim}
 use Rattle.algorithm.proofs.Lists.{nth-replace}
@@ -25,6 +25,7 @@ unfolding play
 play-keeps P keeps t [] h = h
 play-keeps P keeps t (a ∷ p) h = play-keeps P keeps (step t a .table) p (keeps t a h)
 
+-- a run of a table that keeps the rules ends in one that does
 pub run-sound : (t : Table) (p : List ℕ) → Fails (broken t) → Fails (broken (run t p .table))
 run-sound t p = play-keeps (λ t. Fails (broken t)) step-sound t (pieces (pieceCount p) p)
 
@@ -69,11 +70,11 @@ pieces-next (suc k) p =
 abbrev pub stepped : Ran → List ℕ → Ran
 stepped r a = joined r (record { replies = step (r .table) a .number ∷ []; table = step (r .table) a .table })
 
+-- the run of one piece more
 pub run-next : (k : ℕ) (t : Table) (p : List ℕ) → runTo (k + 1) t p ≡ stepped (runTo k t p) (take 8 (drop (8 * k) p))
 unfolding play
 run-next k t p = rw (add-one k, pieces-next k p) (play-append t (pieces k p) (take 8 (drop (8 * k) p) ∷ []))
 
--- a reply for each piece
 length-pieces : (k : ℕ) (p : List ℕ) → length (pieces k p) ≡ k
 unfolding pieces
 length-pieces zero p = refl
@@ -84,12 +85,13 @@ unfolding play
 length-replies t [] = refl
 length-replies t (a ∷ p) = ap suc (length-replies (step t a .table) p)
 
+-- a reply for each piece
 pub replies-count : (k : ℕ) (t : Table) (p : List ℕ) → length (runTo k t p .replies) ≡ k
 replies-count k t p = length-replies t (pieces k p) ∙ length-pieces k p
 
 -- ---- marks
 
--- a commit at a marked position has that very term
+-- a taken commit leaves every mark that is not 0
 commit-marks : (t : Table) (i q : ℕ) → Taken t (commit i q) → (p : ℕ) → 0 < mark t p → mark (after t (commit i q)) p ≡ mark t p
 unfolding after
 commit-marks t i q k p o =
@@ -100,7 +102,7 @@ commit-marks t i q k p o =
     let some : at ≢ 0 = unequal empty in
     nth-replace (t .marks) at (server t i .term) 0 (omega arith) (omega (arith, h .full, here-sound h i (k .fit .0) .short)) p
     ∙ put-elim (λ n x. 0 < mark t n → x ≡ mark t n)
-    (λ m. ⊎-elim (λ z. let e : mark t at ≡ 0 = equal z in absurd (omega arith)) (λ e. sym (equal e)) (either (refuted other)))
+    (λ m. ⊎-elim (λ z. let e : mark t at ≡ 0 = equal z in absurd (omega arith)) (λ e. sym (equal e)) (one-refuted other))
     (λ n _. refl) p o
 
 marks-after : (t : Table) (a : Action) → Taken t a → (p : ℕ) → 0 < mark t p → mark (after t a) p ≡ mark t p

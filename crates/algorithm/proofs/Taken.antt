@@ -7,17 +7,17 @@ use mathlib.Core.Path.{_≡_, refl, sym, ap, _∙_, subst}
 use native.Mathlib.Nat.{eq-or-lt-of-le}
 use native.Mathlib.Decide.{decLe}
 use native.Mathlib.Omega.{arith}
-use lib.Dec.{eqb}
+use lib.Dec.{ltb, eqb}
 use lib.ListN.{length, take, List·getD-eq-default}
-use Rattle.members.specs.Members.{member, within}
-use Rattle.members.proofs.Tests.{Passes, both, together, either, neither, refuted, contradiction, equal, unequal, less, not-less, at-most, is-equal, is-at-most}
+use Rattle.members.specs.Members.{member, within, majority}
+use Rattle.members.proofs.Tests.{Passes, both, together, either, neither, refuted, both-refuted, contradiction, equal, unequal, less, not-less, at-most, is-equal, is-at-most}
 use Rattle.members.proofs.Majorities.{majority-is, one-apart, all-pass, none-passes, most-pass, most-map}
 use Rattle.algorithm.specs.Table.{Log, Server, Table, nth, count, server, primary, entryAt, mark, positions}
 use Rattle.algorithm.specs.Comparisons.{newer, held, prefix}
-use Rattle.algorithm.specs.Actions.{withConfig, withLog, steppedDown, voted, winner, nextConfig, p1, someMarked, holdsMarked, electAfter, reconfigureAfter, sendAfter, spreadAfter, writeAfter, fetchAfter, rollBackAfter, commitRefusals, commitAfter}
-use Rattle.algorithm.specs.Refusals.{Action, unknown, elect, reconfigure, send, spread, write, fetch, rollBack, commit, known, after, actionOf}
+use Rattle.algorithm.specs.Actions.{withConfig, withLog, steppedDown, voted, winner, nextConfig, p1, someMarked, holdsMarked, electAfter, reconfigureAfter, sendAfter, spreadAfter, writeAfter, fetchAfter, rollBackAfter, commitRefusals, commitAfter, Action, unknown, elect, reconfigure, send, spread, write, fetch, rollBack, commit, after, actionOf}
+use Rattle.algorithm.specs.Refusals.{known}
 use Rattle.algorithm.specs.Run.{step}
-use Rattle.algorithm.specs.Demand.{stakes, wonBy}
+use Rattle.algorithm.specs.Demand.{wins, wonBy}
 use Rattle.algorithm.specs.Logless as logless
 use Rattle.algorithm.specs.Logless.{core, put}
 use Rattle.algorithm.proofs.Lists.{nth-replace}
@@ -92,11 +92,11 @@ module _ (t : Table) (i q : ℕ) (k : Taken t (elect i q)) where
         mark = mark t;
       })
 
-  elect-move : Move (view t) (view (electAfter t i q)) (stakes t (elect i q))
+  elect-move : Move (view t) (view (electAfter t i q)) (wins t (elect i q))
   elect-move =
       let (voters, (terms, (configs, (logs, _)))) = k .own in
       let width = within-width (count t) (k .fit .1) in
-      let (most, self) = both (refuted voters) in
+      let (most, self) = both-refuted {a = majority q (server t i .config .set)} {b = member i q} voters in
       moved (electAfter t i q) elect-view (takes (full.config (logless.elect i q)) (
         record {
           majority = majority-is most;
@@ -175,7 +175,7 @@ module _ (t : Table) (i j : ℕ) where
   fetch-move : Taken t (fetch i j) → Move (view t) (view (fetchAfter t i j)) []
   fetch-move k =
       let (role, (goes-on, _)) = k .own in
-      let (longer, joined) = both (refuted goes-on) in
+      let (longer, joined) = both-refuted {a = ltb (length l) (length m)} goes-on in
       moved (fetchAfter t i j) (view-log t i (withLog (l ++ (entryAt m (length l + 1) ∷ [])) (server t i)) (k .fit .0) refl)
       (takes (full.fetch i j) (record {
         secondary = equal (refuted role);
@@ -225,7 +225,7 @@ commit-move t i q k =
 
 -- ---- every step
 
-taken-move : (t : Table) (a : Action) → Taken t a → Move (view t) (view (after t a)) (stakes t a)
+taken-move : (t : Table) (a : Action) → Taken t a → Move (view t) (view (after t a)) (wins t a)
 unfolding after
 taken-move t unknown k = rests
 taken-move t (elect i q) k = elect-move t i q k

@@ -1,39 +1,88 @@
--- The eight actions: for each the refusals that are its own, lowest first, and the table after it. Assumes nothing.
-use Prim.Native.Nat.{ℕ, zero, suc, _+_, _-_}
+-- The eight actions: the bytes that name one, for each kind the refusals that are its own, lowest first, and the table after it.
+-- A byte is any number here; those that come from a slice are below 256. Assumes nothing.
+use Prim.Native.Nat.{ℕ, zero, suc, _+_, _-_, _*_}
 use mathlib.Core.Bool.{Bool, true, false, cond, not, _&&_, _||_}
 use mathlib.Core.List.{List, [], _∷_, _++_}
 use lib.Dec.{leb, ltb, eqb}
-use lib.ListN.{length, take}
+use lib.ListN.{length, getD, take}
 use Rattle.members.specs.Members.{member, oneApart, majority, allPass, somePass, mostPass}
 use Rattle.algorithm.specs.Table.{Config, Entry, Log, Server, Table, replace, count, server, primary, secondary, entryAt, termAt, mark, ceiling, positions}
 use Rattle.algorithm.specs.Comparisons.{newer, last, ahead, held, prefix}
+
+-- ---- the bytes: kind, i, j, 0, set (low byte first), 0, 0
+
+-- byte k, from 0; a byte that is missing is 0
+abbrev pub byte : List ℕ → ℕ → ℕ
+byte bs k = getD bs k 0
+
+-- the kind
+abbrev pub kindOf : List ℕ → ℕ
+kindOf bs = byte bs 0
+
+-- server i
+abbrev pub iOf : List ℕ → ℕ
+iOf bs = byte bs 1
+
+-- server j
+abbrev pub jOf : List ℕ → ℕ
+jOf bs = byte bs 2
+
+-- the set
+abbrev pub setOf : List ℕ → ℕ
+setOf bs = byte bs 4 + 256 * byte bs 5
+
+-- every kind uses i; elect, reconfigure and commit use the set
+abbrev pub usesSet : ℕ → Bool
+usesSet k = eqb k 1 || eqb k 2 || eqb k 8
+
+-- send, spread, fetch and roll back use j
+abbrev pub usesJ : ℕ → Bool
+usesJ k = eqb k 3 || eqb k 4 || eqb k 6 || eqb k 7
+
+-- an action: its kind and what that uses, or an unknown kind
+pub data Action : Type 0 where
+  elect reconfigure commit : ℕ → ℕ → Action
+  send spread fetch rollBack : ℕ → ℕ → Action
+  write : ℕ → Action
+  unknown : Action
+
+-- the actions by the numbers of their kinds, from 0
+abbrev pub kinds : ℕ → ℕ → ℕ → List Action
+kinds i j M =
+    unknown ∷ elect i M ∷ reconfigure i M ∷ send i j ∷ spread i j ∷ write i ∷ fetch i j ∷ rollBack i j ∷ commit i M ∷ []
+
+-- the action that the bytes name
+abbrev pub actionOf : List ℕ → Action
+actionOf bs = getD (kinds (iOf bs) (jOf bs) (setOf bs)) (kindOf bs) unknown
+
+-- ---- what the kinds share
 
 -- a refusal: its number, and whether it holds
 pub record Refusal : Type 0 where
   pub number : ℕ
   pub holds : Bool
 
--- number k, where b holds
+-- refusal k, which holds where b does
 abbrev pub refuse : ℕ → Bool → Refusal
 refuse k b = record { number = k; holds = b }
 
--- the table with another server i
+-- the table with s as server i
 abbrev pub withServer : Table → ℕ → Server → Table
 withServer t i s = record { servers = replace (t .servers) i s; marks = t .marks }
 
--- a server with another configuration
+-- the server with the configuration C
 abbrev pub withConfig : Config → Server → Server
 withConfig C s = record { role = s .role; term = s .term; config = C; log = s .log }
 
--- a server with another log
+-- the server with the log l
 abbrev pub withLog : Log → Server → Server
 withLog l s = record { role = s .role; term = s .term; config = s .config; log = l }
 
--- a server that has the term T and is secondary
+-- the server with the term T, secondary
 abbrev pub steppedDown : ℕ → Server → Server
 steppedDown T s = record { role = 0; term = T; config = s .config; log = s .log }
 
--- ---- 1: elect i by the set q
+-- ---- 1: elect i by the set Q
 
 -- server s has a larger term than i
 abbrev pub largerTerm : Table → ℕ → ℕ → Bool
@@ -47,27 +96,27 @@ newerConfig t i s = newer (server t s .config) (server t i .config)
 abbrev pub logAhead : Table → ℕ → ℕ → Bool
 logAhead t i s = ahead (server t s .log) (server t i .log)
 
--- what can be said against it
+-- elect: 7 to 11
 abbrev pub electRefusals : Table → ℕ → ℕ → List Refusal
-electRefusals t i q =
+electRefusals t i Q =
     let a = server t i in
-    refuse 7 (not (majority q (a .config .set) && member i q))
-    ∷ refuse 8 (somePass (count t) (largerTerm t i) q)
-    ∷ refuse 9 (somePass (count t) (newerConfig t i) q)
-    ∷ refuse 10 (somePass (count t) (logAhead t i) q)
+    refuse 7 (not (majority Q (a .config .set)) || not (member i Q))
+    ∷ refuse 8 (somePass (count t) (largerTerm t i) Q)
+    ∷ refuse 9 (somePass (count t) (newerConfig t i) Q)
+    ∷ refuse 10 (somePass (count t) (logAhead t i) Q)
     ∷ refuse 11 (eqb (a .term) ceiling)
     ∷ []
 
--- the servers k, k + 1, .. with the members of q at the term T, secondary
+-- of the servers k, k + 1, .., the members of Q with the term T, secondary; the others as they are
 unfoldable pub votersFrom : ℕ → ℕ → ℕ → List Server → List Server
-votersFrom k q T [] = []
-votersFrom k q T (s ∷ ss) = cond (member k q) (steppedDown T s) s ∷ votersFrom (suc k) q T ss
+votersFrom k Q T [] = []
+votersFrom k Q T (s ∷ ss) = cond (member k Q) (steppedDown T s) s ∷ votersFrom (suc k) Q T ss
 
--- every member of q has voted for the term T
+-- every member of Q has the term T and is secondary
 abbrev pub voted : Table → ℕ → ℕ → Table
-voted t q T = record { servers = votersFrom 1 q T (t .servers); marks = t .marks }
+voted t Q T = record { servers = votersFrom 1 Q T (t .servers); marks = t .marks }
 
--- a server that has won the term T
+-- the server as primary, with T for its term and its configuration term; its set, version and log stay
 abbrev pub winner : ℕ → Server → Server
 winner T s =
     record {
@@ -77,13 +126,14 @@ winner T s =
       log = s .log;
     }
 
--- the members of q have the next term, and i leads it
+-- with T = i's term + 1: every member of Q has term T; i is primary with configuration term T; the other members of Q are secondary
 abbrev pub electAfter : Table → ℕ → ℕ → Table
-electAfter t i q =
+electAfter t i Q =
     let a = server t i in
-    withServer (voted t q (a .term + 1)) i (winner (a .term + 1) a)
+    let T = a .term + 1 in
+    withServer (voted t Q T) i (winner T a)
 
--- ---- 2: reconfigure i to the set m
+-- ---- 2: reconfigure i to the set M
 
 -- server s has i's version and configuration term
 abbrev pub sameConfig : Table → ℕ → ℕ → Bool
@@ -94,12 +144,12 @@ sameConfig t i s =
 abbrev pub sameTerm : Table → ℕ → ℕ → Bool
 sameTerm t i s = eqb (server t s .term) (server t i .term)
 
--- some of the positions 1 to k is marked with the term T
+-- some of the positions 1 to k is marked with the term T, which is at least 1 for a primary
 unfoldable pub someMarked : ℕ → Table → ℕ → Bool
 someMarked zero t T = false
 someMarked (suc k) t T = eqb (mark t (suc k)) T || someMarked k t T
 
--- of the positions 1 to k, each that is marked with the term T is held by the log
+-- the log l holds every entry marked with the term T at the positions 1 to k
 unfoldable pub holdsMarked : ℕ → Table → ℕ → Log → Bool
 holdsMarked zero t T l = true
 holdsMarked (suc k) t T l = (not (eqb (mark t (suc k)) T) || held l (suc k) T) && holdsMarked k t T l
@@ -120,45 +170,45 @@ q2 t i = mostPass (count t) (sameTerm t i) (server t i .config .set)
 abbrev pub p1 : Table → ℕ → Bool
 p1 t i = someMarked positions t (server t i .term) && mostPass (count t) (holdsCommitted t i) (server t i .config .set)
 
--- what can be said against it
+-- reconfigure: 6 and 11 to 16
 abbrev pub reconfigureRefusals : Table → ℕ → ℕ → List Refusal
-reconfigureRefusals t i m =
+reconfigureRefusals t i M =
     let a = server t i in
     refuse 6 (not (primary a))
     ∷ refuse 11 (eqb (a .config .version) ceiling)
-    ∷ refuse 12 (not (member i m))
-    ∷ refuse 13 (not (oneApart (a .config .set) m))
+    ∷ refuse 12 (not (member i M))
+    ∷ refuse 13 (not (oneApart (a .config .set) M))
     ∷ refuse 14 (not (q1 t i))
     ∷ refuse 15 (not (q2 t i))
     ∷ refuse 16 (not (p1 t i))
     ∷ []
 
--- the configuration with the set m and the next version
+-- the configuration with the set M and the next version; its configuration term stays
 abbrev pub nextConfig : ℕ → Config → Config
-nextConfig m C = record { set = m; version = C .version + 1; term = C .term }
+nextConfig M C = record { set = M; version = C .version + 1; term = C .term }
 
--- i has the next configuration, with the set m
+-- i's set is M, and its version has grown by 1
 abbrev pub reconfigureAfter : Table → ℕ → ℕ → Table
-reconfigureAfter t i m =
+reconfigureAfter t i M =
     let a = server t i in
-    withServer t i (withConfig (nextConfig m (a .config)) a)
+    withServer t i (withConfig (nextConfig M (a .config)) a)
 
 -- ---- 3: send i's configuration to j
 
--- what can be said against it
+-- send: 6 and 17
 abbrev pub sendRefusals : Table → ℕ → ℕ → List Refusal
 sendRefusals t i j =
     let a = server t i in
     let b = server t j in
     refuse 6 (not (primary a) || not (secondary b)) ∷ refuse 17 (not (newer (a .config) (b .config))) ∷ []
 
--- j has i's configuration
+-- j has i's set, version and configuration term
 abbrev pub sendAfter : Table → ℕ → ℕ → Table
 sendAfter t i j = withServer t j (withConfig (server t i .config) (server t j))
 
 -- ---- 4: spread i's term to j
 
--- what can be said against it
+-- spread: 18
 abbrev pub spreadRefusals : Table → ℕ → ℕ → List Refusal
 spreadRefusals t i j = refuse 18 (not (ltb (server t j .term) (server t i .term))) ∷ []
 
@@ -168,13 +218,13 @@ spreadAfter t i j = withServer t j (steppedDown (server t i .term) (server t j))
 
 -- ---- 5: write at i
 
--- what can be said against it
+-- write: 6 and 19
 abbrev pub writeRefusals : Table → ℕ → List Refusal
 writeRefusals t i =
     let a = server t i in
     refuse 6 (not (primary a)) ∷ refuse 19 (leb positions (length (a .log))) ∷ []
 
--- server i's log with one entry more
+-- the table with e at the end of i's log
 abbrev pub appended : Table → ℕ → Entry → Table
 appended t i e =
     let a = server t i in
@@ -186,26 +236,26 @@ writeAfter t i = appended t i (record { term = server t i .term })
 
 -- ---- 6: fetch to i from j
 
--- l is empty, or its last entry is m's at that position
+-- l is empty, or its last entry equals m's at that position
 abbrev pub joins : Log → Log → Bool
 joins l m = eqb (length l) 0 || eqb (last l) (termAt m (length l))
 
--- what can be said against it
+-- fetch: 6 and 20
 abbrev pub fetchRefusals : Table → ℕ → ℕ → List Refusal
 fetchRefusals t i j =
     let a = server t i in
     let b = server t j in
     refuse 6 (not (secondary a))
-    ∷ refuse 20 (not (ltb (length (a .log)) (length (b .log)) && joins (a .log) (b .log)))
+    ∷ refuse 20 (not (ltb (length (a .log)) (length (b .log))) || not (joins (a .log) (b .log)))
     ∷ []
 
--- i has j's next entry
+-- i's log has gained j's next entry
 abbrev pub fetchAfter : Table → ℕ → ℕ → Table
 fetchAfter t i j = appended t i (entryAt (server t j .log) (length (server t i .log) + 1))
 
 -- ---- 7: roll back i against j
 
--- what can be said against it
+-- roll back: 6 and 21
 abbrev pub rollBackRefusals : Table → ℕ → ℕ → List Refusal
 rollBackRefusals t i j =
     let a = server t i in
@@ -218,26 +268,40 @@ rollBackAfter t i j =
     let a = server t i in
     withServer t i (withLog (take (length (a .log) - 1) (a .log)) a)
 
--- ---- 8: commit at i by the set q
+-- ---- 8: commit at i by the set Q
 
--- server s has i's term and holds i's last entry
+-- server s has i's term, and holds an entry of that term where i has its last one
 abbrev pub holdsLast : Table → ℕ → ℕ → Bool
 holdsLast t i s = sameTerm t i s && held (server t s .log) (length (server t i .log)) (server t i .term)
 
--- what can be said against it
+-- commit: 6, 7 and 22 to 24
 abbrev pub commitRefusals : Table → ℕ → ℕ → List Refusal
-commitRefusals t i q =
+commitRefusals t i Q =
     let a = server t i in
     let p = length (a .log) in
     refuse 6 (not (primary a))
-    ∷ refuse 7 (not (majority q (a .config .set)))
+    ∷ refuse 7 (not (majority Q (a .config .set)))
     ∷ refuse 22 (eqb p 0 || not (eqb (last (a .log)) (a .term)))
-    ∷ refuse 23 (not (allPass (count t) (holdsLast t i) q))
-    ∷ refuse 24 (not (eqb (mark t p) 0 || eqb (mark t p) (a .term)))
+    ∷ refuse 23 (not (allPass (count t) (holdsLast t i) Q))
+    ∷ refuse 24 (not (eqb (mark t p) 0) && not (eqb (mark t p) (a .term)))
     ∷ []
 
 -- the position of i's last entry is marked with i's term
 abbrev pub commitAfter : Table → ℕ → ℕ → Table
-commitAfter t i q =
+commitAfter t i Q =
     let a = server t i in
     record { servers = t .servers; marks = replace (t .marks) (length (a .log)) (a .term) }
+
+-- ---- any of them
+
+-- the table after the action, where it is taken; an unknown one never is
+unfoldable pub after : Table → Action → Table
+after t unknown = t
+after t (elect i Q) = electAfter t i Q
+after t (reconfigure i M) = reconfigureAfter t i M
+after t (send i j) = sendAfter t i j
+after t (spread i j) = spreadAfter t i j
+after t (write i) = writeAfter t i
+after t (fetch i j) = fetchAfter t i j
+after t (rollBack i j) = rollBackAfter t i j
+after t (commit i Q) = commitAfter t i Q

@@ -9,7 +9,7 @@ use Rattle.algorithm.specs.Actions.{withLog, withServer, winner}
 use Rattle.algorithm.specs.Run.{run}
 
 infix 20 _gives_
--- what a case gives, and what it must give: replies, truth values as 0 and 1, lengths
+-- what a case gives, and what it must give: replies (0 for taken), truth values as 0 and 1, lengths
 pub record Case : Type 0 where
   pub gives : List ℕ
   pub expected : List ℕ
@@ -43,7 +43,7 @@ alone = withServer (fresh 1 1) 1 (winner 1 (freshServer 1))
 abbrev pub backTwice : List ℕ
 backTwice = bytes 7 1 2 0 ++ bytes 7 1 2 0
 
--- the cases, one line each
+-- the cases, a line each, and a second one for the log that rolls back to empty
 unfoldable pub cases : List Case
 cases =
     (replies (fresh 1 1) (bytes 1 1 0 1) gives 0 ∷ [])

@@ -6,7 +6,7 @@ use lib.Dec.{leb, ltb, eqb}
 use lib.ListN.{length}
 use Rattle.algorithm.specs.Table.{Config, Log, termAt}
 
--- C is newer than D: its term is larger, or that is equal and its version is larger
+-- C is newer than D: its configuration term is larger, or that is equal and its version is larger
 abbrev pub newer : Config → Config → Bool
 newer C D = ltb (D .term) (C .term) || eqb (C .term) (D .term) && ltb (D .version) (C .version)
 
@@ -18,11 +18,11 @@ last l = termAt l (length l)
 abbrev pub ahead : Log → Log → Bool
 ahead l m = ltb (last m) (last l) || eqb (last l) (last m) && ltb (length m) (length l)
 
--- l has the term t at position p
+-- the entry (p, T) is held by l: l has the term T at position p
 abbrev pub held : Log → ℕ → ℕ → Bool
-held l p t = leb 1 p && leb p (length l) && eqb (termAt l p) t
+held l p T = leb 1 p && leb p (length l) && eqb (termAt l p) T
 
--- l is the beginning of m
+-- l is a prefix of m
 unfoldable pub prefix : Log → Log → Bool
 prefix [] m = true
 prefix (e ∷ l) [] = false

@@ -4,24 +4,24 @@ use mathlib.Core.Bool.{cond}
 use mathlib.Core.List.{List, [], _∷_, _++_}
 use lib.Dec.{eqb}
 use Rattle.algorithm.specs.Table.{Table, server}
-use Rattle.algorithm.specs.Refusals.{Action, unknown, elect, reconfigure, send, spread, write, fetch, rollBack, commit, actionOf}
+use Rattle.algorithm.specs.Actions.{Action, unknown, elect, reconfigure, send, spread, write, fetch, rollBack, commit, actionOf}
 use Rattle.algorithm.specs.Run.{step, pieces}
 
--- the term that an action wins if it is taken: an election's
-abbrev pub stakes : Table → Action → List ℕ
-stakes t unknown = []
-stakes t (elect i q) = (server t i .term + 1) ∷ []
-stakes t (reconfigure i m) = []
-stakes t (send i j) = []
-stakes t (spread i j) = []
-stakes t (write i) = []
-stakes t (fetch i j) = []
-stakes t (rollBack i j) = []
-stakes t (commit i q) = []
+-- the term that an action wins where it is taken: for an election i's term + 1, for any other kind none
+abbrev pub wins : Table → Action → List ℕ
+wins t unknown = []
+wins t (elect i q) = (server t i .term + 1) ∷ []
+wins t (reconfigure i m) = []
+wins t (send i j) = []
+wins t (spread i j) = []
+wins t (write i) = []
+wins t (fetch i j) = []
+wins t (rollBack i j) = []
+wins t (commit i q) = []
 
--- the term that a step wins, if any
+-- the term that a step wins: none where it is refused
 unfoldable pub wonBy : Table → List ℕ → List ℕ
-wonBy t a = cond (eqb (step t a .number) 0) (stakes t (actionOf a)) []
+wonBy t a = cond (eqb (step t a .number) 0) (wins t (actionOf a)) []
 
 -- the terms won by actions one after another
 unfoldable pub wonAlong : Table → List (List ℕ) → List ℕ
@@ -32,7 +32,7 @@ wonAlong t (a ∷ rest) = wonBy t a ++ wonAlong (step t a .table) rest
 abbrev pub termsWon : ℕ → Table → List ℕ → List ℕ
 termsWon k t p = wonAlong t (pieces k p)
 
--- b < t₁ < t₂ < ..
+-- b < u₁ < u₂ < ..
 abbrev pub Rising : ℕ → List ℕ → Type 0
 Rising b [] = Unit {0}
-Rising b (t ∷ ts) = (b < t) × Rising t ts
+Rising b (u ∷ us) = (b < u) × Rising u us

@@ -1,4 +1,5 @@
--- The algorithm without logs and marks: roles, terms and configurations, and actions 1 to 4 alone. Assumes nothing.
+-- The algorithm without logs and marks: roles, terms and configurations, and actions 1 to 4 alone. It allows more than document 01 does:
+-- any server may send, a new set's majorities need only meet the old one's, and nothing is bounded. Assumes nothing.
 use Prim.Native.Nat.{ℕ, _+_, _≤_, _<_}
 use mathlib.Core.Bool.{cond, not}
 use mathlib.Core.List.{List, [], _∷_, _++_}
@@ -10,11 +11,11 @@ use Rattle.algorithm.specs.Table.{Server, Table, server, absent, freshSe
 use Rattle.algorithm.specs.Comparisons.{newer}
 use Rattle.algorithm.specs.Actions.{withConfig, withLog, steppedDown, winner, nextConfig}
 
--- the servers by their numbers, with no entry in any log
+-- the servers by their numbers n; their logs are not looked at
 abbrev pub State : Type 0
 State = ℕ → Server
 
--- a table with logs and marks left out
+-- the servers of a table, their logs left out
 abbrev pub core : Table → State
 core t n = withLog [] (server t n)
 
@@ -27,14 +28,14 @@ pub data Action : Type 0 where
   elect reconfigure : ℕ → ℕ → Action
   send spread : ℕ → ℕ → Action
 
--- i can be elected by the set q
+-- i can be elected by the set Q
 pub record CanElect (s : State) (i q : ℕ) : Type 0 where
   pub majority : Majority q (s i .config .set)
   pub self : Member i q
   pub terms : All q (λ n. s n .term ≤ s i .term)
   pub configs : All q (λ n. T (not (newer (s n .config) (s i .config))))
 
--- i can go over to the set m
+-- i can reconfigure to the set M
 pub record CanReconfigure (s : State) (i m : ℕ) : Type 0 where
   pub primary : s i .role ≡ 1
   pub self : Member i m
@@ -42,7 +43,7 @@ pub record CanReconfigure (s : State) (i m : ℕ) : Type 0 where
   pub Q1 : Most (s i .config .set) (λ n. (s n .config .version ≡ s i .config .version) × (s n .config .term ≡ s i .config .term))
   pub Q2 : Most (s i .config .set) (λ n. s n .term ≡ s i .term)
 
--- i's configuration can go to j
+-- i's configuration can be sent to j
 pub record CanSend (s : State) (i j : ℕ) : Type 0 where
   pub secondary : s j .role ≡ 0
   pub newer : T (newer (s i .config) (s j .config))
@@ -54,9 +55,9 @@ Allowed s (reconfigure i m) = CanReconfigure s i m
 Allowed s (send i j) = CanSend s i j
 Allowed s (spread i j) = s j .term < s i .term
 
--- the members of q have the term T and are secondary
+-- the members of Q have the term u and are secondary
 unfoldable pub voted : State → ℕ → ℕ → State
-voted s q T n = cond (member n q) (steppedDown T (s n)) (s n)
+voted s Q u n = cond (member n Q) (steppedDown u (s n)) (s n)
 
 -- the state after an action
 abbrev pub after : State → Action → State

@@ -1,4 +1,4 @@
--- A reply's number. Assumes nothing.
+-- A reply's number. The enum `Reply` stands in src/lib.rt. Assumes nothing.
 use Prim.Native.Nat.{ℕ}
 use Rattle.algorithm.specs.declared.Reply.{Reply}
 use Rattle.algorithm.specs.declared.Reply.the-variants.{Taken, Refused}

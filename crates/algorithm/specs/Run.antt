@@ -5,25 +5,26 @@ use mathlib.Core.List.{List, [], _∷_}
 use lib.Dec.{eqb}
 use lib.ListN.{length, take, drop}
 use Rattle.algorithm.specs.Table.{Table}
-use Rattle.algorithm.specs.Refusals.{refusals, first, actionOf, after}
+use Rattle.algorithm.specs.Actions.{actionOf, after}
+use Rattle.algorithm.specs.Refusals.{refusals, first}
 
 -- the reply's number, 0 for taken, and the table afterwards
 pub record Outcome : Type 0 where
   pub number : ℕ
   pub table : Table
 
--- the action in the bytes a is taken if no refusal holds, and otherwise changes nothing
+-- the action that the bytes name: taken if no refusal holds; otherwise its number is the lowest that does, and the table stays
 unfoldable pub step : Table → List ℕ → Outcome
-step t a =
-    let k = first (refusals t a) in
-    record { number = k; table = cond (eqb k 0) (after t (actionOf a)) t }
+step t bs =
+    let k = first (refusals t bs) in
+    record { number = k; table = cond (eqb k 0) (after t (actionOf bs)) t }
 
--- the first k pieces of 8 bytes; what is missing at the end makes a piece shorter
+-- the first k pieces of 8 bytes; a piece that the end cuts is shorter, and beyond the end pieces are empty: these are refused 2
 unfoldable pub pieces : ℕ → List ℕ → List (List ℕ)
 pieces zero p = []
 pieces (suc k) p = take 8 p ∷ pieces k (drop 8 p)
 
--- how many pieces the bytes make, a shorter last one included
+-- how many pieces the bytes make, a cut last one included
 abbrev pub pieceCount : List ℕ → ℕ
 pieceCount p = (length p + 7) / 8
 
@@ -35,14 +36,15 @@ pub record Ran : Type 0 where
 -- actions one after another; a refused one leaves the table
 unfoldable pub play : Table → List (List ℕ) → Ran
 play t [] = record { replies = []; table = t }
-play t (a ∷ rest) =
-    let o = step t a in
+play t (bs ∷ rest) =
+    let o = step t bs in
     let r = play (o .table) rest in
     record { replies = o .number ∷ r .replies; table = r .table }
 
--- the run of the first k pieces of a plan, and of the whole plan, any list of bytes
+-- the run of the first k pieces of a plan, which is any list of bytes
 abbrev pub runTo : ℕ → Table → List ℕ → Ran
 runTo k t p = play t (pieces k p)
 
+-- the run of the whole plan
 abbrev pub run : Table → List ℕ → Ran
 run t p = runTo (pieceCount p) t p

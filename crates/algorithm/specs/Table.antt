@@ -64,10 +64,11 @@ absent = record { role = 0; term = 0; config = record { set = 0; version = 0; te
 abbrev pub server : Table → ℕ → Server
 server t i = nth (t .servers) i absent
 
--- a server leads, or follows
+-- its role is primary
 abbrev pub primary : Server → Bool
 primary s = eqb (s .role) 1
 
+-- its role is secondary
 abbrev pub secondary : Server → Bool
 secondary s = eqb (s .role) 0
 
@@ -75,7 +76,7 @@ secondary s = eqb (s .role) 0
 abbrev pub entryAt : Log → ℕ → Entry
 entryAt l p = nth l p (record { term = 0 })
 
--- its term
+-- the term at a position, or 0
 abbrev pub termAt : Log → ℕ → ℕ
 termAt l p = entryAt l p .term
 
@@ -83,36 +84,25 @@ termAt l p = entryAt l p .term
 abbrev pub mark : Table → ℕ → ℕ
 mark t p = nth (t .marks) p 0
 
--- m before marks that do not end with 0, so that they still do not: 0 before none is none
-abbrev pub kept : ℕ → List ℕ → List ℕ
-kept zero [] = []
-kept (suc m) [] = suc m ∷ []
-kept m (x ∷ l) = m ∷ x ∷ l
-
--- marks through the last one that is not 0
-unfoldable pub trimmed : List ℕ → List ℕ
-trimmed [] = []
-trimmed (m ∷ ms) = kept m (trimmed ms)
-
 -- ---- rules
 
 -- the largest term and the largest version
 abbrev pub ceiling : ℕ
 ceiling = 1000000000
 
--- the number of positions
+-- the number of positions: the longest log, and the marks
 abbrev pub positions : ℕ
 positions = 64
 
--- a configuration of a table of n servers
+-- a configuration: a non-empty set within the n servers, a version 1 to the ceiling, a configuration term up to it
 abbrev pub soundConfig : ℕ → Config → Bool
 soundConfig n c = within (c .set) n && leb 1 (c .version) && leb (c .version) ceiling && leb (c .term) ceiling
 
--- an entry is never 0
+-- an entry: a term 1 to the ceiling
 abbrev pub soundEntry : Entry → Bool
 soundEntry e = leb 1 (e .term) && leb (e .term) ceiling
 
--- a server of a table of n servers; a primary's term is at least 1
+-- a server: a primary of a term that is at least 1, or a secondary; a term up to the ceiling, a configuration, a log of 0 to 64 entries
 abbrev pub soundServer : ℕ → Server → Bool
 soundServer n s =
     (primary s && leb 1 (s .term) || secondary s)
@@ -121,20 +111,33 @@ soundServer n s =
     && leb (length (s .log)) positions
     && every soundEntry (s .log)
 
--- there is a mark, perhaps 0, for each position
+-- the marks: one for each position, up to the ceiling, 0 for none
 abbrev pub soundMarks : List ℕ → Bool
 soundMarks ms = eqb (length ms) positions && every (λ m. leb m ceiling) ms
 
--- the table breaks a rule
+-- the table breaks a rule: it has 1 to 16 servers, and they and the marks are as above, or it is broken
 unfoldable pub broken : Table → Bool
 broken t = not (leb 1 (count t) && leb (count t) 16 && every (soundServer (count t)) (t .servers) && soundMarks (t .marks))
 
 -- ---- a fresh table
 
--- a server of which nothing has happened yet, with the set M
+-- secondary, term 0, the set M, version 1, configuration term 0, an empty log
 abbrev pub freshServer : ℕ → Server
 freshServer M = record { role = 0; term = 0; config = record { set = M; version = 1; term = 0 }; log = [] }
 
--- n such servers, and no marks
+-- n such servers, and no marks; where n is not 1 to 16, or M is empty or not within n, this table is broken
 abbrev pub fresh : ℕ → ℕ → Table
 fresh n M = record { servers = replicate n (freshServer M); marks = replicate positions 0 }
+
+-- ---- marks as an image and a report give them
+
+-- m before the marks ms, but a 0 with nothing behind it is left out
+abbrev pub kept : ℕ → List ℕ → List ℕ
+kept zero [] = []
+kept (suc m) [] = suc m ∷ []
+kept m (x ∷ ms) = m ∷ x ∷ ms
+
+-- the marks through the last one that is not 0
+unfoldable pub trimmed : List ℕ → List ℕ
+trimmed [] = []
+trimmed (m ∷ ms) = kept m (trimmed ms)

@@ -2,7 +2,7 @@
 ghost use mathlib.Core.Path.{_≡_};
 ghost use Prim.Native.Nat.{_+_, _*_};
 ghost use lib.ListN.{length};
-ghost use Rattle.algorithm.specs.Refusals.{setOf};
+ghost use Rattle.algorithm.specs.Actions.{setOf};
 ghost use Rattle.algorithm.specs.Reply.{numberOf};
 
 pub struct Term(pub u32);

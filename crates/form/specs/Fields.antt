@@ -1,20 +1,19 @@
--- Refusals 3 to 5 by what a kind uses, beside the three bytes that none uses: server i, server j, the set m. Assumes nothing.
+-- Refusals 3 to 5 by what a kind uses: server i, server j, the set m. Assumes nothing.
 use Prim.Native.Nat.{ℕ}
-use mathlib.Core.Bool.{not, _&&_}
+use mathlib.Core.Bool.{not, _||_}
 use mathlib.Core.List.{List, [], _∷_}
-use lib.Dec.{eqb}
 use Rattle.members.specs.Members.{within}
 use Rattle.algorithm.specs.Actions.{Refusal, refuse}
-use Rattle.algorithm.specs.Refusals.{known}
+use Rattle.algorithm.specs.Refusals.{stray, known}
 
 -- i and j
 abbrev pub pairRefusals : ℕ → ℕ → ℕ → ℕ → List Refusal
-pairRefusals n i j m = refuse 3 (not (eqb m 0)) ∷ refuse 4 (not (known n i && known n j)) ∷ []
+pairRefusals n i j m = refuse 3 (stray m) ∷ refuse 4 (not (known n i) || not (known n j)) ∷ []
 
 -- i and the set
 abbrev pub setRefusals : ℕ → ℕ → ℕ → ℕ → List Refusal
-setRefusals n i j m = refuse 3 (not (eqb j 0)) ∷ refuse 4 (not (known n i)) ∷ refuse 5 (not (within m n)) ∷ []
+setRefusals n i j m = refuse 3 (stray j) ∷ refuse 4 (not (known n i)) ∷ refuse 5 (not (within m n)) ∷ []
 
 -- i alone
 abbrev pub loneRefusals : ℕ → ℕ → ℕ → ℕ → List Refusal
-loneRefusals n i j m = refuse 3 (not (eqb j 0 && eqb m 0)) ∷ refuse 4 (not (known n i)) ∷ []
+loneRefusals n i j m = refuse 3 (stray j || stray m) ∷ refuse 4 (not (known n i)) ∷ []

@@ -1,8 +1,9 @@
 // The form of an action: what its bytes must be beside a table of n servers.
 ghost use mathlib.Core.Path.{_≡_};
-ghost use Prim.Native.Nat.{_+_, _≤_};
+ghost use Prim.Native.Nat.{_≤_};
 ghost use lib.ListN.{length, drop};
-ghost use Rattle.algorithm.specs.Refusals.{formRefusals, kindOf, usesSet, usesSecond, known, first};
+ghost use Rattle.algorithm.specs.Actions.{kindOf, usesSet, usesJ};
+ghost use Rattle.algorithm.specs.Refusals.{strayZero, known, formRefusals, first};
 ghost use Rattle.form.specs.Refused.{holdsIn};
 ghost use Rattle.form.specs.Fields.{pairRefusals, setRefusals, loneRefusals};
 use algorithm::set_in;
@@ -17,9 +18,9 @@ fn uses_set(kind: u8) -> bool
     (kinds >> kind) % 2 == 1
 }
 
-fn uses_second(kind: u8) -> bool
+fn uses_j(kind: u8) -> bool
     requires { ⌜ kind ≤ 8 ⌝ }
-    ensures { λ r. ⌜ r ≡ usesSecond kind ⌝ }
+    ensures { λ r. ⌜ r ≡ usesJ kind ⌝ }
 {
     let kinds: u16 = 0b1101_1000;
     (kinds >> kind) % 2 == 1
@@ -31,10 +32,11 @@ fn is_known(n: u8, i: u8) -> bool
     (1 <= i) & (i <= n)
 }
 
-fn sum(x: u8, y: u8, z: u8) -> u16
-    ensures { λ r. ⌜ r ≡ x + y + z ⌝ }
+fn has_stray(a: &[u8]) -> bool
+    requires { ⌜ length (now a) ≡ 8 ⌝ }
+    ensures { λ r. ⌜ r ≡ strayZero (now (a .entry)) ⌝ }
 {
-    x as u16 + y as u16 + z as u16
+    (a[3] != 0) | (a[6] != 0) | (a[7] != 0)
 }
 
 fn judge_pair(n: u8, i: u8, j: u8, m: u16) -> u8
@@ -44,7 +46,7 @@ fn judge_pair(n: u8, i: u8, j: u8, m: u16) -> u8
     if stray {
         return 3;
     }
-    if !(is_known(n, i) & is_known(n, j)) {
+    if !is_known(n, i) | !is_known(n, j) {
         return 4;
     }
     0
@@ -69,7 +71,7 @@ fn judge_set(n: u8, i: u8, j: u8, m: u16) -> u8
 fn judge_lone(n: u8, i: u8, j: u8, m: u16) -> u8
     ensures { λ r. ⌜ r ≡ first (loneRefusals n i j m) ⌝ }
 {
-    if !((j == 0) & (m == 0)) {
+    if (j != 0) | (m != 0) {
         return 3;
     }
     if !is_known(n, i) {
@@ -95,11 +97,11 @@ fn judge_fields(n: u8, a: &[u8]) -> u8
     requires { ⌜ kindOf (now a) ≤ 8 ⌝ }
     ensures { λ r. ⌜ r ≡ first (drop 1 (formRefusals n (now (a .entry)))) ⌝ }
 {
-    if sum(a[3], a[6], a[7]) != 0 {
+    if has_stray(a) {
         return 3;
     }
     let kind = a[0];
-    if uses_second(kind) {
+    if uses_j(kind) {
         return judge_pair(n, a[1], a[2], set_in(a));
     }
     if uses_set(kind) {

@@ -4,7 +4,8 @@ ghost use mathlib.Core.Bool.{true};
 ghost use Prim.Native.Nat.{_≤_};
 ghost use lib.ListN.{getD};
 ghost use Rattle.algorithm.specs.Table.{count};
-ghost use Rattle.algorithm.specs.Refusals.{formRefusals, usesSecond, kinds, actionOf, unknown, ownRefusals, first};
+ghost use Rattle.algorithm.specs.Actions.{usesJ, kinds, actionOf, unknown};
+ghost use Rattle.algorithm.specs.Refusals.{formRefusals, ownRefusals, first};
 ghost use Rattle.table.specs.Layout.{tableIn};
 ghost use Rattle.table.specs.Slice.{Held, Within};
 use algorithm::set_in;
@@ -21,7 +22,7 @@ use set_judges::judge_reconfigure;
 fn judge_kind(t: &[u8], kind: u8, i: u8, j: u8, m: u16) -> u8
     requires { ⌜ Held (now t) ⌝ }
     requires { ⌜ Within (now t) i ⌝ }
-    requires { ⌜ (usesSecond kind ≡ true → Within (now t) j) ⌝ }
+    requires { ⌜ (usesJ kind ≡ true → Within (now t) j) ⌝ }
     requires { ⌜ (1 ≤ kind) × (kind ≤ 8) ⌝ }
     ensures { λ r. ⌜ r ≡ first (ownRefusals (tableIn (now (t .entry))) (getD (kinds i j m) kind unknown)) ⌝ }
 {

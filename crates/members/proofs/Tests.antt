@@ -50,6 +50,18 @@ module _ {b : Bool} where
   pub fails : (Passes b → ⊥) → Fails b
   fails f = record { no = not-T b (λ t. f (record { yes = t })) }
 
+-- what is left where a refusal that joins two denials does not hold
+module _ {a b : Bool} where
+  pub both-refuted : Fails (not a || not b) → Passes a × Passes b
+  both-refuted h = let (x, y) = neither h in (refuted x, refuted y)
+
+  pub one-refuted : Fails (not a && not b) → Passes a ⊎ Passes b
+  one-refuted h = go a b h
+    where
+      go : (a b : Bool) → Fails (not a && not b) → Passes a ⊎ Passes b
+      go true b h = inl (record { yes = tt })
+      go false b h = inr (refuted h)
+
 pub fails-false : {b : Bool} → Fails b → b ≡ false
 fails-false {b = true} h = absurd (h .no)
 fails-false {b = false} h = refl

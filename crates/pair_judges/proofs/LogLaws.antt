@@ -1,7 +1,7 @@
 -- Refusals that look at logs. Assumes nothing.
 use Prim.Native.Nat.{ℕ, _≤_, _<_}
 use mathlib.Core.Path.{_≡_}
-use mathlib.Core.Bool.{Bool, true, not, _&&_, _||_}
+use mathlib.Core.Bool.{Bool, true, not, _||_}
 use lib.Dec.{leb, ltb}
 use borrow.Author.Tests.{lt-ltb, le-ltb}
 use Rattle.algorithm.specs.Table.{Log}
@@ -19,5 +19,5 @@ module _ (l m : Log) (x y : ℕ) (e : x ≡ last l) (f : y ≡ last m) where
 pub full-told : (x a k : ℕ) → x ≡ a → leb k x ≡ leb k a
 full-told x a k e = rw e
 
-pub fetch-told : (x y a b : ℕ) (r c : Bool) → x ≡ a → y ≡ b → r ≡ c → not (ltb x y && r) ≡ not (ltb a b && c)
+pub fetch-told : (x y a b : ℕ) (r c : Bool) → x ≡ a → y ≡ b → r ≡ c → (not (ltb x y) || not r) ≡ (not (ltb a b) || not c)
 fetch-told x y a b r c e f g = rw (e, f, g)

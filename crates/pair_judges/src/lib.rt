@@ -71,7 +71,7 @@ fn cannot_fetch(t: &[u8], i: usize, j: usize) -> bool
     requires { ⌜ Within (now t) j ⌝ }
     ensures { λ r. ⌜ r ≡ holdsIn 20 (fetchRefusals (tableIn (now (t .entry))) i j) ⌝ }
 {
-    !((length_of(t, i).0 < length_of(t, j).0) & joins(t, i, j))
+    !(length_of(t, i).0 < length_of(t, j).0) | !joins(t, i, j)
 }
 
 pub fn judge_fetch(t: &[u8], i: usize, j: usize) -> u8

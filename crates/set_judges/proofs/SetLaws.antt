@@ -2,7 +2,7 @@
 use Prim.Native.Nat.{ℕ, _≤_}
 use native.Mathlib.Omega.{arith}
 use mathlib.Core.Path.{_≡_}
-use mathlib.Core.Bool.{Bool, false, not, _||_}
+use mathlib.Core.Bool.{Bool, false, not, _&&_, _||_}
 use mathlib.Core.List.{[], _∷_}
 use lib.Dec.{eqb, ltb}
 use lib.ListN.{length}
@@ -43,7 +43,7 @@ module _ (x a : ℕ) (e : x ≡ a) (m : ℕ) (r : Bool) where
 pub lacks-told : (x y z a b c : ℕ) → x ≡ a → y ≡ b → z ≡ c → (eqb x 0 || not (eqb y z)) ≡ (eqb a 0 || not (eqb b c))
 lacks-told x y z a b c e f g = rw (e, f, g)
 
-pub otherwise-told : (t : Table) (x y p q c : ℕ) → x ≡ mark t p → p ≡ q → y ≡ c → not (eqb x 0 || eqb x y) ≡ not (eqb (mark t q) 0 || eqb (mark t q) c)
+pub otherwise-told : (t : Table) (x y p q c : ℕ) → x ≡ mark t p → p ≡ q → y ≡ c → (not (eqb x 0) && not (eqb x y)) ≡ (not (eqb (mark t q) 0) && not (eqb (mark t q) c))
 otherwise-told t x y p q c e f g = rw (e, f, g)
 
 -- what finds the first refusal from tests on sets

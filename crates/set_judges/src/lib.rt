@@ -67,7 +67,7 @@ pub fn judge_elect(t: &[u8], i: usize, q: u16) -> u8
     requires { ⌜ Within (now t) i ⌝ }
     ensures { λ r. ⌜ r ≡ first (electRefusals (tableIn (now (t .entry))) i q) ⌝ }
 {
-    if !(is_majority_of(t, i, q) & is_member(i as u8, q)) {
+    if !is_majority_of(t, i, q) | !is_member(i as u8, q) {
         return 7;
     }
     let o = poll(t, i, q);
@@ -159,7 +159,7 @@ fn is_marked_otherwise(t: &[u8], i: usize) -> bool
     ensures { λ r. ⌜ r ≡ holdsIn 24 (commitRefusals (tableIn (now (t .entry))) i 0) ⌝ }
 {
     let m = mark_of(t, length_of(t, i));
-    !((m.0 == 0) | (m.0 == term_of(t, i).0))
+    (m.0 != 0) & (m.0 != term_of(t, i).0)
 }
 
 pub fn judge_commit(t: &[u8], i: usize, q: u16) -> u8

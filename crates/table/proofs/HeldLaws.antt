@@ -4,9 +4,12 @@ use native.Mathlib.Omega.{arith}
 use mathlib.Core.Path.{_≡_, ap, sym, subst, _∙_}
 use mathlib.Core.List.{List, [], _∷_, _++_}
 use lib.ListN.{length, getD, set, length-set}
+use Rattle.members.proofs.Tests.{Passes}
 use Rattle.algorithm.specs.Table.{Server, Table, absent, nth, replace, count, server}
 use Rattle.algorithm.specs.Actions.{withServer}
+use Rattle.algorithm.specs.Refusals.{known}
 use Rattle.algorithm.proofs.Lists.{length-replace}
+use Rattle.algorithm.proofs.Seen.{known-range}
 use Rattle.words.specs.Words.{words, Put}
 use Rattle.table.specs.Layout.{row, layout, tableOf, tableIn}
 use Rattle.table.specs.Slice.{Roomy, AllRoomy, Holds, Held, Became, Within, changed}
@@ -121,3 +124,8 @@ again {b} {b₁} {b₂} {i} f g w p q =
     ∙ (λ d. withServer (withServer t i s) i (g (nth-replaced (t .servers) i s absent (w .some) (w .known) d)))
     ∙ (λ d. record { servers = replace-replace (t .servers) i s (g s) d; marks = t .marks }) in
     record { holds = subst (λ (x : Table). Holds b₂ x) after (q .holds); held = q .held; same = q .same ∙ p .same }
+
+-- ---- a server that is known
+
+pub known-within : {b : List ℕ} {i : ℕ} → Passes (known (count (tableIn b)) i) → Within b i
+known-within h = let (some, known) = known-range h in record { some = some; known = known }

@@ -1,22 +1,22 @@
 -- `act::act` meets its contract. Assumes nothing.
 use native.Mathlib.Omega.{arith}
 use borrow.Author.Needs.{needs}
-use Rattle.algorithm.specs.Refusals.{after}
-use Rattle.act.proofs.ReadyLaws.{sized, has-byte, no-other, first-within, second-within, elect-below, elect-within, reconfigure-below, write-room, fetch-room, roll-back-some, commit-some, did, did-by}
+use Rattle.algorithm.specs.Actions.{after}
+use Rattle.act.proofs.ReadyLaws.{sized, reads, no-other, i-within, j-within, elect-below, elect-within, reconfigure-below, write-room, fetch-room, roll-back-some, commit-some, did, did-by}
 use Rattle.act.proofs.act.Statement.{statement}
 use Rattle.act.proofs.act.Tie as tie
 
 shared-slice-read-kind : tie.Need-shared-slice-read-kind
-shared-slice-read-kind c = search (needs, has-byte)
+shared-slice-read-kind c = search (needs, reads)
 
 shared-slice-read-i : tie.Need-shared-slice-read-i
-shared-slice-read-i c = search (needs, has-byte)
+shared-slice-read-i c = search (needs, reads)
 
 cast-i : tie.Need-cast-i
 cast-i c = omega (arith, c .shared-slice-known3 .given 1)
 
 shared-slice-read-j : tie.Need-shared-slice-read-j
-shared-slice-read-j c = search (needs, has-byte)
+shared-slice-read-j c = search (needs, reads)
 
 cast-j : tie.Need-cast-j
 cast-j c = omega (arith, c .shared-slice-known4 .given 2)
@@ -25,31 +25,31 @@ set-in-requires : tie.Need-set-in-requires
 set-in-requires c κs = search (needs, sized)
 
 elect-requires : tie.Need-elect-requires
-elect-requires c κs = search (needs, first-within, elect-below, elect-within)
+elect-requires c κs = search (needs, i-within, elect-below, elect-within)
 
 set-in-requires-2 : tie.Need-set-in-requires-2
 set-in-requires-2 c κs = search (needs, sized)
 
 reconfigure-requires : tie.Need-reconfigure-requires
-reconfigure-requires c κs = search (needs, first-within, reconfigure-below)
+reconfigure-requires c κs = search (needs, i-within, reconfigure-below)
 
 send-requires : tie.Need-send-requires
-send-requires c κs = search (needs, first-within, second-within)
+send-requires c κs = search (needs, i-within, j-within)
 
 spread-requires : tie.Need-spread-requires
-spread-requires c κs = search (needs, first-within, second-within)
+spread-requires c κs = search (needs, i-within, j-within)
 
 write-requires : tie.Need-write-requires
-write-requires c κs = search (needs, first-within, write-room)
+write-requires c κs = search (needs, i-within, write-room)
 
 fetch-requires : tie.Need-fetch-requires
-fetch-requires c κs = search (needs, first-within, second-within, fetch-room)
+fetch-requires c κs = search (needs, i-within, j-within, fetch-room)
 
 roll-back-requires : tie.Need-roll-back-requires
-roll-back-requires c κs = search (needs, first-within, roll-back-some)
+roll-back-requires c κs = search (needs, i-within, roll-back-some)
 
 commit-requires : tie.Need-commit-requires
-commit-requires c κs = search (needs, first-within, commit-some)
+commit-requires c κs = search (needs, i-within, commit-some)
 
 same-length : tie.Need-same-length
 same-length c = search needs

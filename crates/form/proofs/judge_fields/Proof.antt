@@ -4,17 +4,8 @@ use Rattle.form.proofs.FormLaws.{stray-byte, pair-fields, set-fields, l
 use Rattle.form.proofs.judge_fields.Statement.{statement}
 use Rattle.form.proofs.judge_fields.Tie as tie
 
-shared-slice-read-sum : tie.Need-shared-slice-read-sum
-shared-slice-read-sum c = search needs
-
-shared-slice-read-sum-2 : tie.Need-shared-slice-read-sum-2
-shared-slice-read-sum-2 c = search needs
-
-shared-slice-read-sum-3 : tie.Need-shared-slice-read-sum-3
-shared-slice-read-sum-3 c = search needs
-
-sum-requires : tie.Need-sum-requires
-sum-requires c κs = search needs
+has-stray-requires : tie.Need-has-stray-requires
+has-stray-requires c κs = search needs
 
 returns : tie.Need-returns
 returns c = search (needs, stray-byte)
@@ -22,8 +13,8 @@ returns c = search (needs, stray-byte)
 shared-slice-read-kind : tie.Need-shared-slice-read-kind
 shared-slice-read-kind c = search needs
 
-uses-second-requires : tie.Need-uses-second-requires
-uses-second-requires c κs = search needs
+uses-j-requires : tie.Need-uses-j-requires
+uses-j-requires c κs = search needs
 
 shared-slice-read-judge-pair : tie.Need-shared-slice-read-judge-pair
 shared-slice-read-judge-pair c = search needs
@@ -77,13 +68,10 @@ pub judge-fields-spec : {M : Type 1} → statement M
 judge-fields-spec =
     tie.close
     (tie.spec
-    shared-slice-read-sum
-    shared-slice-read-sum-2
-    shared-slice-read-sum-3
-    sum-requires
+    has-stray-requires
     returns
     shared-slice-read-kind
-    uses-second-requires
+    uses-j-requires
     shared-slice-read-judge-pair
     shared-slice-read-judge-pair-2
     set-in-requires

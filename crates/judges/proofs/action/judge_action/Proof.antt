@@ -1,6 +1,6 @@
 -- `judges::action::judge_action` meets its contract. Assumes nothing.
 use borrow.Author.Needs.{needs}
-use Rattle.judges.proofs.ActionLaws.{form-length, form-reads, form-first, form-second, form-kind, with-set}
+use Rattle.judges.proofs.ActionLaws.{form-length, form-reads, form-i, form-j, form-kind, with-set}
 use Rattle.judges.proofs.action.judge_action.Statement.{statement}
 use Rattle.judges.proofs.action.judge_action.Tie as tie
 
@@ -17,7 +17,7 @@ set-in-requires : tie.Need-set-in-requires
 set-in-requires c κs = search (needs, form-length)
 
 judge-kind-requires : tie.Need-judge-kind-requires
-judge-kind-requires c κs = search (needs, form-first, form-second, form-kind)
+judge-kind-requires c κs = search (needs, form-i, form-j, form-kind)
 
 returns : tie.Need-returns
 returns c = search (needs, with-set)

@@ -1,6 +1,6 @@
 -- `judges::action::judge_kind` meets its contract. Assumes nothing.
 use borrow.Author.Needs.{needs}
-use Rattle.judges.proofs.ActionLaws.{second-known, of-kind, last-kind}
+use Rattle.judges.proofs.ActionLaws.{j-within, of-kind, last-kind}
 use Rattle.judges.proofs.action.judge_kind.Statement.{statement}
 use Rattle.judges.proofs.action.judge_kind.Tie as tie
 
@@ -11,19 +11,19 @@ judge-reconfigure-requires : tie.Need-judge-reconfigure-requires
 judge-reconfigure-requires c κs = search needs
 
 judge-send-requires : tie.Need-judge-send-requires
-judge-send-requires c κs = search (needs, second-known)
+judge-send-requires c κs = search (needs, j-within)
 
 judge-spread-requires : tie.Need-judge-spread-requires
-judge-spread-requires c κs = search (needs, second-known)
+judge-spread-requires c κs = search (needs, j-within)
 
 judge-write-requires : tie.Need-judge-write-requires
 judge-write-requires c κs = search needs
 
 judge-fetch-requires : tie.Need-judge-fetch-requires
-judge-fetch-requires c κs = search (needs, second-known)
+judge-fetch-requires c κs = search (needs, j-within)
 
 judge-roll-back-requires : tie.Need-judge-roll-back-requires
-judge-roll-back-requires c κs = search (needs, second-known)
+judge-roll-back-requires c κs = search (needs, j-within)
 
 judge-commit-requires : tie.Need-judge-commit-requires
 judge-commit-requires c κs = search needs
