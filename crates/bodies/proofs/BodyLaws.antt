@@ -9,9 +9,9 @@ use lib.Dec.{leb, eqb}
 use lib.ListN.{length, getD, take, drop, length-drop, length-map}
 use lib.Seq.{take-all, length-take-le}
 use borrow.Author.Tests.{le-leb, ne-eqb}
-use Rattle.members.specs.Members.{within}
-use Rattle.algorithm.specs.Table.{absent, nth, every, ceiling, soundEntry, soundServer}
+use Rattle.algorithm.specs.Table.{nth, every, ceiling, soundEntry, soundServer}
 use Rattle.algorithm.specs.Actions.{withLog}
+use Rattle.figures.specs.Figures.{figured}
 use Rattle.words.specs.Words.{words, part, between}
 use Rattle.table.specs.Layout.{entries}
 use Rattle.words.proofs.WordLaws.{length-words}
@@ -19,7 +19,7 @@ use Rattle.table.proofs.SoundLaws.{server-parts}
 use Rattle.bodies.specs.declared.Figures.{Figures}
 use Rattle.contents.specs.Contents.{countIn, halfAt, offset, size, stop}
 use Rattle.bodies.specs.Bodies.{body, serverIn, soundMarksBody, soundServerBody, soundAt, soundBodies}
-use Rattle.bodies.specs.Asked.{Names, Named, Sized, figuresOf, withFigures}
+use Rattle.bodies.specs.Asked.{Names, Named, Sized, figuresOf}
 use Rattle.contents.proofs.BelowLaws.{Tested}
 
 -- ---- the marks
@@ -51,14 +51,6 @@ marks-tell b n v ok e some h l = go (words b) n (e ∙ sym (length-words b)) som
 pub length-rest : (b : List ℕ) → length (drop 4 (words b)) ≡ length b / 4 - 4
 length-rest b = length-drop 4 (words b) ∙ ap (λ (k : ℕ). k - 4) (length-words b)
 
-pub figures-tell : (f : Figures) (n : ℕ) (w : Bool) → w ≡ within (f .set) n
-    → ((eqb (f .role) 1 && leb 1 (f .term .0) || eqb (f .role) 0)
-    && leb (f .term .0) ceiling
-    && (w && leb 1 (f .version .0) && leb (f .version .0) ceiling && leb (f .config .0) ceiling))
-    ≡ soundServer n (withFigures f absent)
-unfolding every
-figures-tell f n w e = rw e (sym (and-true _ ∙ and-true _))
-
 pub figures-read : (b : List ℕ) (role term set version config : ℕ) → role ≡ getD b 0 0 → term ≡ getD (words b) 1 0 → set ≡ halfAt b 2
     → version ≡ getD (words b) 2 0 → config ≡ getD (words b) 3 0
     → _≡_ {A = Figures}
@@ -73,7 +65,8 @@ unfolding every
 entries-sound [] = refl
 entries-sound (x ∷ l) = ap (λ (r : Bool). soundEntry (record { term = x }) && r) (entries-sound l)
 
-pub server-tells : (b : List ℕ) (n : ℕ) (f : Figures) (r e : Bool) → Sized b → f ≡ figuresOf (serverIn b) → r ≡ soundServer n (withFigures f absent)
+pub server-tells : (b : List ℕ) (n : ℕ) (f : Figures) (r e : Bool) → Sized b → f ≡ figuresOf (serverIn b)
+    → r ≡ soundServer n (figured (f .role) (f .term .0) (f .set) (f .version .0) (f .config .0))
     → e ≡ every (between 1 ceiling) (part (words b) 4 (length b / 4 - 4)) → (eqb (getD b 1 0) 0 && r && e) ≡ soundServerBody n b
 server-tells b n f r e h hf hr he =
     let s = serverIn b in

@@ -1,8 +1,7 @@
 // Whether the bodies' fields keep the rules. A body is the part of the image that its entry names: what judges it sees nothing else.
 ghost use mathlib.Core.Path.{_≡_};
-ghost use Rattle.algorithm.specs.Table.{absent, soundServer};
 ghost use Rattle.bodies.specs.Bodies.{serverIn, soundMarksBody, soundServerBody, soundAt, soundBodies};
-ghost use Rattle.bodies.specs.Asked.{Names, Named, Sized, figuresOf, withFigures};
+ghost use Rattle.bodies.specs.Asked.{Names, Named, Sized, figuresOf};
 use algorithm::CEILING;
 use algorithm::Term;
 use algorithm::Version;
@@ -11,7 +10,7 @@ use contents::half;
 use contents::offset_of;
 use contents::stop_of;
 use contents::wide;
-use members::is_within;
+use figures::figures_sound;
 use words::all_between;
 use words::word;
 
@@ -49,24 +48,13 @@ pub fn figures_of(b: &[u8]) -> Figures
     }
 }
 
-// The figures are those of a server of a table of n.
-fn figures_sound(f: Figures, n: u8) -> bool
-    ensures { λ r. ⌜ r ≡ soundServer n (withFigures f absent) ⌝ }
-{
-    let role_sound = (f.role == 1) & (1 <= f.term.0) | (f.role == 0);
-    let config_sound = is_within(f.set, n)
-        & (1 <= f.version.0)
-        & (f.version.0 <= CEILING)
-        & (f.config.0 <= CEILING);
-    role_sound & (f.term.0 <= CEILING) & config_sound
-}
-
 fn server_sound(b: &[u8], n: u8) -> bool
     requires { ⌜ Sized (now b) ⌝ }
     ensures { λ r. ⌜ r ≡ soundServerBody n (now (b .entry)) ⌝ }
 {
     let spare = b[1];
-    let figures = figures_sound(figures_of(b), n);
+    let f = figures_of(b);
+    let figures = figures_sound(f.role, f.term, f.set as u32, f.version, f.config, n);
     let entries = all_between(b, 4, b.len() / 4 - 4, 1, CEILING);
     (spare == 0) & figures & entries
 }

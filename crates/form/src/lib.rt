@@ -62,7 +62,7 @@ fn judge_set(n: u8, i: u8, j: u8, m: u16) -> u8
     if !is_known(n, i) {
         return 4;
     }
-    if !is_within(m, n) {
+    if !is_within(m as u32, n) {
         return 5;
     }
     0

@@ -9,9 +9,9 @@ use engine::run;
 use engine::step;
 use fresh::fill_fresh;
 use image::read;
+use members::is_within;
 use table::BYTES;
 use whole::is_whole;
-use whole::set_within;
 use writer::write;
 
 #[no_mangle]
@@ -34,7 +34,7 @@ pub extern "C" fn kyntulei_fresh(table: &mut [u8], n: u32, set: u32) -> u32
     if 16 < n {
         return 32;
     }
-    if set_within(set, n as u8) {
+    if is_within(set, n as u8) {
         fill_fresh(table, n as u8, set as u16);
         return 0;
     }

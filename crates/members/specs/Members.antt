@@ -24,7 +24,7 @@ Member s m = T (member s m)
 abbrev pub within : ℕ → ℕ → Bool
 within m n = ltb 0 m && ltb m (2 ^ n)
 
--- one server is in one of the two sets and not in the other
+-- exactly one server is in one of the two sets and not in the other
 abbrev pub oneApart : ℕ → ℕ → Bool
 oneApart a b = eqb (ones (bitXor a b)) 1
 
@@ -39,7 +39,7 @@ pub record Majority (q m : ℕ) : Type 0 where
   pub inside : Subset q m
   pub more : ones m < 2 * ones q
 
--- the same as a test
+-- the same as a test (proofs/Majorities: majority-is, is-majority)
 abbrev pub majority : ℕ → ℕ → Bool
 majority q m = eqb (bitAnd q m) q && ltb (ones m) (2 * ones q)
 
@@ -53,27 +53,27 @@ MajoritiesMeet a b = (q r : ℕ) → Majority q a → Majority r b → Meet q r
 
 -- ---- what is said of the members of a set
 
--- every member of q is P
+-- P holds of every member of q
 abbrev pub All : ℕ → (ℕ → Type 0) → Type 0
 All q P = (s : ℕ) → Member s q → P s
 
--- some member of q is P
+-- P holds of some member of q
 abbrev pub Some : ℕ → (ℕ → Type 0) → Type 0
 Some q P = (s : ℕ) × Member s q × P s
 
--- some majority of m is all P
+-- P holds of every member of some majority of m
 pub record Most (m : ℕ) (P : ℕ → Type 0) : Type 0 where
   pub by : ℕ
   pub majority : Majority by m
   pub all : All by P
 
--- every majority of m has a member that is P
+-- P holds of some member of every majority of m
 abbrev pub Hits : ℕ → (ℕ → Type 0) → Type 0
 Hits m P = (q : ℕ) → Majority q m → Some q P
 
--- ---- the same as tests, for sets of servers 1 to n
+-- ---- the same as tests, for sets of servers 1 to n (proofs/Majorities: all-pass, none-passes, most-pass)
 
--- 1 for a test that passes, and 0
+-- 1 for a test that passes, 0 for one that fails
 abbrev pub one : Bool → ℕ
 one true = 1
 one false = 0
@@ -91,6 +91,6 @@ allPass n p q = eqb (bitAnd q (mask n p)) q
 abbrev pub somePass : ℕ → (ℕ → Bool) → ℕ → Bool
 somePass n p q = ltb 0 (bitAnd q (mask n p))
 
--- a majority of m passes p: those members of m that do are one
+-- the members of m that pass p are a majority of m
 abbrev pub mostPass : ℕ → (ℕ → Bool) → ℕ → Bool
 mostPass n p m = majority (bitAnd m (mask n p)) m

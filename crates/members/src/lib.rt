@@ -13,11 +13,11 @@ pub fn is_member(s: u8, m: u16) -> bool
     (m >> (s - 1)) % 2 == 1
 }
 
-// m is not empty and has servers 1 to n only.
-pub fn is_within(m: u16, n: u8) -> bool
+// m is not empty and has servers 1 to n only. It takes any word of a slice, a set or not.
+pub fn is_within(m: u32, n: u8) -> bool
     ensures { λ r. ⌜ r ≡ within m n ⌝ }
 {
-    0 < m && (16 <= n || m >> n == 0)
+    0 < m && (32 <= n || m >> n == 0)
 }
 
 // One server is in one of the two sets and not in the other.

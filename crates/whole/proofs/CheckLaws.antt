@@ -1,37 +1,27 @@
 -- What the check's functions find out. Assumes nothing.
-use Prim.Native.Nat.{ℕ, suc, _+_, _-_, _*_, _^_, _≤_, _<_}
+use Prim.Native.Nat.{ℕ, suc, _+_, _-_, _*_, _≤_, _<_}
 use native.Mathlib.Omega.{arith}
 use mathlib.Core.Path.{_≡_, ap, sym, _∙_}
-use mathlib.Core.Bool.{Bool, true, false, _&&_, _||_, and-true, and-assoc}
+use mathlib.Core.Bool.{Bool, true, false, _&&_, and-true, and-assoc}
 use mathlib.Core.List.{List, []}
-use lib.Dec.{leb, eqb}
 use lib.ListN.{getD, drop}
-use lib.Pow.{pow-mono}
 use lib.Seq.{getD-drop, drop-drop}
-use borrow.Author.Tests.{le-ltb, lt-ltb, le-leb, lt-leb}
-use Rattle.members.specs.Members.{within}
+use borrow.Author.Tests.{le-leb, lt-leb}
 use Rattle.algorithm.specs.Table.{every, ceiling, soundServer}
 use Rattle.algorithm.specs.Actions.{withLog}
 use Rattle.words.specs.Words.{part, between}
+use Rattle.figures.specs.Figures.{figured}
 use Rattle.table.specs.Layout.{serverOf}
 use Rattle.whole.specs.Check.{soundRow, soundRows, soundWords}
-
--- ---- a server's figures
-
--- no set of a table has a bit above 16
-pub set-large : (n m : ℕ) → n ≤ 16 → 65535 < m → false ≡ within m n
-set-large n m h l = rw (lt-ltb 0 m (omega arith)) (sym (le-ltb m (2 ^ n) (omega (arith, pow-mono {i = n} {j = 16} h))))
 
 -- ---- a row at a place
 
 module _ (c : List ℕ) (at n : ℕ) where
-  -- a server with an empty log is sound by its figures alone
-  pub figures-at : (role term set version config : ℕ) (w : Bool) → role ≡ getD c (at + 0) 0 → term ≡ getD c (at + 1) 0 → set ≡ getD c (at + 2) 0
-      → version ≡ getD c (at + 3) 0 → config ≡ getD c (at + 4) 0 → w ≡ within set n
-      → ((eqb role 1 && leb 1 term || eqb role 0) && leb term ceiling && (w && leb 1 version && leb version ceiling && leb config ceiling))
-      ≡ soundServer n (withLog [] (serverOf (drop at c)))
-  unfolding serverOf every
-  figures-at role term set version config w e₀ e₁ e₂ e₃ e₄ e =
+  pub figures-at : (role term set version config : ℕ) (r : Bool) → role ≡ getD c (at + 0) 0 → term ≡ getD c (at + 1) 0 → set ≡ getD c (at + 2) 0
+      → version ≡ getD c (at + 3) 0 → config ≡ getD c (at + 4) 0 → r ≡ soundServer n (figured role term set version config)
+      → r ≡ soundServer n (withLog [] (serverOf (drop at c)))
+  unfolding serverOf
+  figures-at role term set version config r e₀ e₁ e₂ e₃ e₄ e =
       rw (
         getD-drop at c 0 0,
         getD-drop at c 1 0,
@@ -43,9 +33,8 @@ module _ (c : List ℕ) (at n : ℕ) where
         ← e₂,
         ← e₃,
         ← e₄,
-        e,
       )
-      (sym (and-true _ ∙ and-true _))
+      e
 
   pub row-long : (k : ℕ) → k ≡ getD c (at + 5) 0 → 64 < k → false ≡ soundRow n (drop at c)
   unfolding soundRow

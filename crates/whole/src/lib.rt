@@ -3,14 +3,15 @@ ghost use mathlib.Core.Path.{_≡_};
 ghost use mathlib.Core.List.{[]};
 ghost use Prim.Native.Nat.{_*_, _≤_};
 ghost use lib.ListN.{length, drop};
-ghost use Rattle.members.specs.Members.{within};
 ghost use Rattle.algorithm.specs.Table.{soundServer};
 ghost use Rattle.algorithm.specs.Actions.{withLog};
 ghost use Rattle.words.specs.Words.{words};
 ghost use Rattle.table.specs.Layout.{serverOf, whole};
 ghost use Rattle.whole.specs.Check.{soundRow, soundRows, soundWords};
 use algorithm::CEILING;
-use members::is_within;
+use algorithm::Term;
+use algorithm::Version;
+use figures::figures_sound;
 use table::BYTES;
 use table::rows::CONFIG;
 use table::rows::LENGTH;
@@ -26,40 +27,22 @@ use words::word;
 // The words of the servers' 16 rows.
 const SERVERS: usize = 1120;
 
-// A set that has a bit above 16 has one above n.
-pub fn set_within(set: u32, n: u8) -> bool
-    requires { ⌜ n ≤ 16 ⌝ }
-    ensures { λ r. ⌜ r ≡ within set n ⌝ }
-{
-    if 65535 < set {
-        return false;
-    }
-    is_within(set as u16, n)
-}
-
 // The figures of server s of n are sound.
-fn figures_sound(t: &[u8], n: u8, s: usize) -> bool
+fn row_figures_sound(t: &[u8], n: u8, s: usize) -> bool
     requires { ⌜ (length (now t) ≡ 4760) × (s ≤ 16) ⌝ }
-    requires { ⌜ n ≤ 16 ⌝ }
     ensures { λ r. ⌜ r ≡ soundServer n (withLog [] (serverOf (drop (70 * s) (words (now (t .entry)))))) ⌝ }
 {
     let at = ROW * s;
     let role = word(t, at + ROLE);
-    let term = word(t, at + TERM);
+    let term = Term(word(t, at + TERM));
     let set = word(t, at + SET);
-    let version = word(t, at + VERSION);
-    let config = word(t, at + CONFIG);
-    let role_sound = (role == 1) & (1 <= term) | (role == 0);
-    let config_sound = set_within(set, n)
-        & (1 <= version)
-        & (version <= CEILING)
-        & (config <= CEILING);
-    role_sound & (term <= CEILING) & config_sound
+    let version = Version(word(t, at + VERSION));
+    let config = Term(word(t, at + CONFIG));
+    figures_sound(role, term, set, version, config, n)
 }
 
 fn row_sound(t: &[u8], n: u8, s: usize) -> bool
     requires { ⌜ (length (now t) ≡ 4760) × (s ≤ 16) ⌝ }
-    requires { ⌜ n ≤ 16 ⌝ }
     ensures { λ r. ⌜ r ≡ soundRow n (drop (70 * s) (words (now (t .entry)))) ⌝ }
 {
     let at = ROW * s;
@@ -68,7 +51,7 @@ fn row_sound(t: &[u8], n: u8, s: usize) -> bool
         return false;
     }
     let k = length as usize;
-    let figures = figures_sound(t, n, s);
+    let figures = row_figures_sound(t, n, s);
     let entries = all_between(t, at + LOG, k, 1, CEILING);
     let beyond = all_between(t, at + (LOG + k), 64 - k, 0, 0);
     figures & entries & beyond

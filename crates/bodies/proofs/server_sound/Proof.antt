@@ -10,6 +10,9 @@ shared-slice-read-spare c = search needs
 figures-of-requires : tie.Need-figures-of-requires
 figures-of-requires c κs = search needs
 
+cast-figures-sound : tie.Need-cast-figures-sound
+cast-figures-sound c = search needs
+
 figures-sound-requires : tie.Need-figures-sound-requires
 figures-sound-requires c κs = search needs
 
@@ -28,6 +31,7 @@ server-sound-spec =
     (tie.spec
     shared-slice-read-spare
     figures-of-requires
+    cast-figures-sound
     figures-sound-requires
     sub-all-between
     all-between-requires

@@ -13,11 +13,11 @@ returns-2 c = search (needs, no-server)
 returns-3 : tie.Need-returns-3
 returns-3 c = search (needs, too-many)
 
-cast-set-within : tie.Need-cast-set-within
-cast-set-within c = search needs
+cast-is-within : tie.Need-cast-is-within
+cast-is-within c = search needs
 
-set-within-requires : tie.Need-set-within-requires
-set-within-requires c κs = search needs
+is-within-requires : tie.Need-is-within-requires
+is-within-requires c κs = search needs
 
 cast-fill-fresh : tie.Need-cast-fill-fresh
 cast-fill-fresh c = search needs
@@ -44,8 +44,8 @@ kyntulei-fresh-spec =
     returns
     returns-2
     returns-3
-    cast-set-within
-    set-within-requires
+    cast-is-within
+    is-within-requires
     cast-fill-fresh
     cast-fill-fresh-2
     fill-fresh-requires

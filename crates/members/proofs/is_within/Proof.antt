@@ -16,8 +16,8 @@ returns : tie.Need-returns
 returns c =
     let n = c .before .before .args .n in
     let m = c .before .before .args .m in
-    le-leb 16 n (omega arith)
-    ∙ rw (lt-ltb 0 m (omega arith)) (sym (lt-ltb m (2 ^ n) (omega (arith, pow-mono {i = 16} {j = n} (omega arith)))))
+    le-leb 32 n (omega arith)
+    ∙ rw (lt-ltb 0 m (omega arith)) (sym (lt-ltb m (2 ^ n) (omega (arith, pow-mono {i = 32} {j = n} (omega arith)))))
 
 returns-2 : tie.Need-returns-2
 returns-2 c = rw (lt-ltb 0 (c .before .before .args .m) (omega arith)) (none-above (c .before .before .args .n) (c .before .before .args .m))

@@ -19,8 +19,8 @@ returns c = search row-long
 cast-k : tie.Need-cast-k
 cast-k c = search needs
 
-figures-sound-requires : tie.Need-figures-sound-requires
-figures-sound-requires c κs = search needs
+row-figures-sound-requires : tie.Need-row-figures-sound-requires
+row-figures-sound-requires c κs = search needs
 
 add-all-between : tie.Need-add-all-between
 add-all-between c = search needs
@@ -52,7 +52,7 @@ row-sound-spec =
     word-requires
     returns
     cast-k
-    figures-sound-requires
+    row-figures-sound-requires
     add-all-between
     all-between-requires
     add-all-between-2

@@ -1,8 +1,8 @@
--- `bodies::figures_sound` meets its contract. Assumes nothing.
+-- `figures::figures_sound` meets its contract. Assumes nothing.
 use borrow.Author.Needs.{needs}
-use Rattle.bodies.proofs.BodyLaws.{figures-tell}
-use Rattle.bodies.proofs.figures_sound.Statement.{statement}
-use Rattle.bodies.proofs.figures_sound.Tie as tie
+use Rattle.figures.proofs.FigureLaws.{figures-tell}
+use Rattle.figures.proofs.figures_sound.Statement.{statement}
+use Rattle.figures.proofs.figures_sound.Tie as tie
 
 is-within-requires : tie.Need-is-within-requires
 is-within-requires c κs = search needs

@@ -1,8 +1,8 @@
--- `whole::figures_sound` meets its contract. Assumes nothing.
+-- `whole::row_figures_sound` meets its contract. Assumes nothing.
 use borrow.Author.Needs.{needs}
 use Rattle.whole.proofs.CheckLaws.{figures-at}
-use Rattle.whole.proofs.figures_sound.Statement.{statement}
-use Rattle.whole.proofs.figures_sound.Tie as tie
+use Rattle.whole.proofs.row_figures_sound.Statement.{statement}
+use Rattle.whole.proofs.row_figures_sound.Tie as tie
 
 mul-at : tie.Need-mul-at
 mul-at c = search needs
@@ -37,14 +37,14 @@ add-word-5 c = search needs
 word-requires-5 : tie.Need-word-requires-5
 word-requires-5 c κs = search needs
 
-set-within-requires : tie.Need-set-within-requires
-set-within-requires c κs = search needs
+figures-sound-requires : tie.Need-figures-sound-requires
+figures-sound-requires c κs = search needs
 
 returns : tie.Need-returns
 returns c = search figures-at
 
-pub figures-sound-spec : {M : Type 1} → statement M
-figures-sound-spec =
+pub row-figures-sound-spec : {M : Type 1} → statement M
+row-figures-sound-spec =
     tie.close
     (tie.spec
     mul-at
@@ -58,5 +58,5 @@ figures-sound-spec =
     word-requires-4
     add-word-5
     word-requires-5
-    set-within-requires
+    figures-sound-requires
     returns)

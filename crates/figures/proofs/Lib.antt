@@ -1,0 +1,2 @@
+-- The law of a server by its figures.
+pub mod FigureLaws
