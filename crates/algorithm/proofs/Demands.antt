@@ -45,7 +45,7 @@ never-given t safe (a ∷ p) (suc k) z = never-given (step t a .table) (safe-ste
 
 -- ---- runs from a fresh table
 
--- After the first k actions of a plan. The whole plan has `pieceCount plan` of them.
+-- After the first k actions of a plan. The whole plan has `pieceCount plan` of them; beyond it actions are empty, and refused.
 module _ (n M : ℕ) (plan : List ℕ) (k : ℕ) where
   abbrev pub end : Table
   end = runTo k (fresh n M) plan .table
@@ -76,7 +76,7 @@ module _ (n M : ℕ) (plan : List ℕ) (k : ℕ) where
   one-primary i j p q e =
       safe .configs .sole (leads i p) (leads j q) (safe .configs .own (leads i p) ∙ e ∙ sym (safe .configs .own (leads j q)))
 
-  -- two logs that have one term at a position agree up to there
+  -- two logs that have the same term at a position agree up to there
   pub logs-match : (i j p u : ℕ) → T (held (server end i .log) p u) → T (held (server end j .log) p u)
       → (r : ℕ) → r ≤ p → termAt (server end i .log) r ≡ termAt (server end j .log) r
   logs-match i j p u h g =

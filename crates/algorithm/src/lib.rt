@@ -5,10 +5,13 @@ ghost use lib.ListN.{length};
 ghost use Rattle.algorithm.specs.Actions.{setOf};
 ghost use Rattle.algorithm.specs.Reply.{numberOf};
 
+// A term: of a server, of a configuration, of an entry, of a mark.
 pub struct Term(pub u32);
 
+// A version of a configuration.
 pub struct Version(pub u32);
 
+// A position in a log, from 1; a log's length is its last one.
 pub struct Position(pub u8);
 
 // The largest term and the largest version.
@@ -32,6 +35,7 @@ pub fn set_in(a: &[u8]) -> u16
     pair(a[4], a[5])
 }
 
+// The reply to an action; a refusal carries its number, and nothing else.
 pub enum Reply {
     Taken,
     Refused(u8),
