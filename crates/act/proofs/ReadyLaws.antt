@@ -11,8 +11,9 @@ use Rattle.members.specs.Members.{within}
 use Rattle.members.proofs.Tests.{Fails, neither, both-refuted, unequal, less, above}
 use Rattle.algorithm.specs.Table.{Log, Table, every, count, server, ceiling, positions}
 use Rattle.algorithm.specs.Comparisons.{last, prefix}
-use Rattle.algorithm.specs.Actions.{kindOf, iOf, jOf, setOf, usesJ, Action, unknown, kinds, actionOf, joins, after}
+use Rattle.algorithm.specs.Actions.{kindOf, iOf, jOf, setOf, usesJ, Action, unknown, kinds, actionOf, joins}
 use Rattle.algorithm.specs.Refusals.{formRefusals, commonRefusals, ownRefusals, refusals, first}
+use Rattle.algorithm.specs.Run.{after}
 use Rattle.algorithm.proofs.Refused.{NoneHold, Taken, taken, first-later}
 use Rattle.algorithm.proofs.Sound.{table-sound, here-sound}
 use Rattle.form.proofs.FormLaws.{past, kind-known, has-byte, i-known, j-known}

@@ -10,8 +10,8 @@ use lib.ListN.{length, take, length-append, length-take, length-replicate}
 use Rattle.members.specs.Members.{within}
 use Rattle.members.proofs.Tests.{Passes, Fails, together, refuted, both-refuted, equal, unequal, less, above, is-at-most}
 use Rattle.algorithm.specs.Table.{Entry, Log, Table, every, count, server, primary, entryAt, ceiling, positions, soundEntry, soundServer, broken, freshServer, fresh}
-use Rattle.algorithm.specs.Actions.{withServer, withConfig, withLog, steppedDown, winner, nextConfig, appended, joins, Action, unknown, elect, reconfigure, send, spread, write, fetch, rollBack, commit, actionOf, after}
-use Rattle.algorithm.specs.Run.{step}
+use Rattle.algorithm.specs.Actions.{withServer, withConfig, withLog, steppedDown, winner, nextConfig, appended, joins, Action, unknown, elect, reconfigure, send, spread, write, fetch, rollBack, commit, actionOf}
+use Rattle.algorithm.specs.Run.{after, step}
 use Rattle.algorithm.proofs.Lists.{every-nth, every-plus, every-take, every-replicate}
 use Rattle.algorithm.proofs.Refused.{Taken, outcome}
 use Rattle.algorithm.proofs.Seen.{count-voted}

@@ -12,9 +12,9 @@ use mir.Facts.{and-yes, yes-and, not-T, eqb-no}
 use Rattle.members.specs.Members.{within}
 use Rattle.members.proofs.Tests.{Passes, Fails, neither, refuted, both-refuted}
 use Rattle.algorithm.specs.Table.{Table, every, count, broken}
-use Rattle.algorithm.specs.Actions.{Refusal, Action, unknown, elect, reconfigure, send, spread, write, fetch, rollBack, commit, kinds, kindOf, iOf, jOf, setOf, usesSet, usesJ, actionOf, after}
+use Rattle.algorithm.specs.Actions.{Refusal, Action, unknown, elect, reconfigure, send, spread, write, fetch, rollBack, commit, kinds, kindOf, iOf, jOf, setOf, usesSet, usesJ, actionOf}
 use Rattle.algorithm.specs.Refusals.{known, commonRefusals, ownRefusals, refusals, first}
-use Rattle.algorithm.specs.Run.{step}
+use Rattle.algorithm.specs.Run.{after, step}
 use Rattle.algorithm.specs.Demand.{wins, wonBy}
 
 -- ---- a list of refusals

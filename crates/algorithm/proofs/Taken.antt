@@ -14,9 +14,9 @@ use Rattle.members.proofs.Tests.{Passes, both, together, either, neither, refut
 use Rattle.members.proofs.Majorities.{majority-is, one-apart, all-pass, none-passes, most-pass, most-map}
 use Rattle.algorithm.specs.Table.{Log, Server, Table, nth, count, server, primary, entryAt, mark, positions}
 use Rattle.algorithm.specs.Comparisons.{newer, held, prefix}
-use Rattle.algorithm.specs.Actions.{withConfig, withLog, steppedDown, voted, winner, nextConfig, p1, someMarked, holdsMarked, electAfter, reconfigureAfter, sendAfter, spreadAfter, writeAfter, fetchAfter, rollBackAfter, commitRefusals, commitAfter, Action, unknown, elect, reconfigure, send, spread, write, fetch, rollBack, commit, after, actionOf}
+use Rattle.algorithm.specs.Actions.{withConfig, withLog, steppedDown, voted, winner, nextConfig, p1, someMarked, holdsMarked, electAfter, reconfigureAfter, sendAfter, spreadAfter, writeAfter, fetchAfter, rollBackAfter, commitRefusals, commitAfter, Action, unknown, elect, reconfigure, send, spread, write, fetch, rollBack, commit, actionOf}
 use Rattle.algorithm.specs.Refusals.{known}
-use Rattle.algorithm.specs.Run.{step}
+use Rattle.algorithm.specs.Run.{after, step}
 use Rattle.algorithm.specs.Demand.{wins, wonBy}
 use Rattle.algorithm.specs.Logless as logless
 use Rattle.algorithm.specs.Logless.{core, put}

@@ -5,9 +5,9 @@ use lib.Count.{ones}
 use Rattle.members.specs.Members.{mask}
 use Rattle.algorithm.specs.Table.{nth, replace, every, broken}
 use Rattle.algorithm.specs.Comparisons.{prefix}
-use Rattle.algorithm.specs.Actions.{votersFrom, after}
+use Rattle.algorithm.specs.Actions.{votersFrom}
 use Rattle.algorithm.specs.Refusals.{refusals, first}
-use Rattle.algorithm.specs.Run.{step, pieces, play}
+use Rattle.algorithm.specs.Run.{after, step, pieces, play}
 use Rattle.algorithm.specs.Cases.{cases}
 
 pub cases-hold : map (λ k. k .gives) cases ≡ map (λ k. k .expected) cases

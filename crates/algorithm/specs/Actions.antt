@@ -1,4 +1,4 @@
--- The eight actions: the bytes that name one, for each kind the refusals that are its own, lowest first, and the table after it.
+-- The eight actions: the bytes that name one; for each kind the refusals that are its own, lowest first, and the table after it.
 -- A byte is any number here; those that come from a slice are below 256. Assumes nothing.
 use Prim.Native.Nat.{ℕ, zero, suc, _+_, _-_, _*_}
 use mathlib.Core.Bool.{Bool, true, false, cond, not, _&&_, _||_}
@@ -126,7 +126,7 @@ winner T s =
       log = s .log;
     }
 
--- with T = i's term + 1: every member of Q has term T; i is primary with configuration term T; the other members of Q are secondary
+-- all of Q goes to the term T that follows i's; i is its primary, with T for a configuration term too, and the rest of Q is secondary
 abbrev pub electAfter : Table → ℕ → ℕ → Table
 electAfter t i Q =
     let a = server t i in
@@ -166,7 +166,7 @@ q1 t i = mostPass (count t) (sameConfig t i) (server t i .config .set)
 abbrev pub q2 : Table → ℕ → Bool
 q2 t i = mostPass (count t) (sameTerm t i) (server t i .config .set)
 
--- P1: a mark carries i's term, and a majority of i's set has that term and holds every entry so marked
+-- P1: some position is marked with i's term, and a majority of i's set has that term and every entry marked with it
 abbrev pub p1 : Table → ℕ → Bool
 p1 t i = someMarked positions t (server t i .term) && mostPass (count t) (holdsCommitted t i) (server t i .config .set)
 
@@ -202,7 +202,7 @@ sendRefusals t i j =
     let b = server t j in
     refuse 6 (not (primary a) || not (secondary b)) ∷ refuse 17 (not (newer (a .config) (b .config))) ∷ []
 
--- j has i's set, version and configuration term
+-- j has i's configuration
 abbrev pub sendAfter : Table → ℕ → ℕ → Table
 sendAfter t i j = withServer t j (withConfig (server t i .config) (server t j))
 
@@ -236,7 +236,7 @@ writeAfter t i = appended t i (record { term = server t i .term })
 
 -- ---- 6: fetch to i from j
 
--- l is empty, or its last entry equals m's at that position
+-- l is empty, or m has l's last entry at the same position
 abbrev pub joins : Log → Log → Bool
 joins l m = eqb (length l) 0 || eqb (last l) (termAt m (length l))
 
@@ -291,17 +291,3 @@ abbrev pub commitAfter : Table → ℕ → ℕ → Table
 commitAfter t i Q =
     let a = server t i in
     record { servers = t .servers; marks = replace (t .marks) (length (a .log)) (a .term) }
-
--- ---- any of them
-
--- the table after the action, where it is taken; an unknown one never is
-unfoldable pub after : Table → Action → Table
-after t unknown = t
-after t (elect i Q) = electAfter t i Q
-after t (reconfigure i M) = reconfigureAfter t i M
-after t (send i j) = sendAfter t i j
-after t (spread i j) = spreadAfter t i j
-after t (write i) = writeAfter t i
-after t (fetch i j) = fetchAfter t i j
-after t (rollBack i j) = rollBackAfter t i j
-after t (commit i Q) = commitAfter t i Q

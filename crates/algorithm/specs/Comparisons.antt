@@ -6,7 +6,7 @@ use lib.Dec.{leb, ltb, eqb}
 use lib.ListN.{length}
 use Rattle.algorithm.specs.Table.{Config, Log, termAt}
 
--- C is newer than D: its configuration term is larger, or that is equal and its version is larger
+-- C is newer than D: by its configuration term, and where these are equal by its version
 abbrev pub newer : Config → Config → Bool
 newer C D = ltb (D .term) (C .term) || eqb (C .term) (D .term) && ltb (D .version) (C .version)
 
@@ -14,7 +14,7 @@ newer C D = ltb (D .term) (C .term) || eqb (C .term) (D .term) && ltb (D .versio
 abbrev pub last : Log → ℕ
 last l = termAt l (length l)
 
--- l is ahead of m: its last entry is larger, or the last entries are equal and it is longer
+-- l is ahead of m: by its last entry, and where these are equal by its length
 abbrev pub ahead : Log → Log → Bool
 ahead l m = ltb (last m) (last l) || eqb (last l) (last m) && ltb (length m) (length l)
 

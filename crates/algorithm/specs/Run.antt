@@ -5,8 +5,20 @@ use mathlib.Core.List.{List, [], _∷_}
 use lib.Dec.{eqb}
 use lib.ListN.{length, take, drop}
 use Rattle.algorithm.specs.Table.{Table}
-use Rattle.algorithm.specs.Actions.{actionOf, after}
+use Rattle.algorithm.specs.Actions.{Action, unknown, elect, reconfigure, send, spread, write, fetch, rollBack, commit, actionOf, electAfter, reconfigureAfter, sendAfter, spreadAfter, writeAfter, fetchAfter, rollBackAfter, commitAfter}
 use Rattle.algorithm.specs.Refusals.{refusals, first}
+
+-- the table after the action, where it is taken; an unknown one never is
+unfoldable pub after : Table → Action → Table
+after t unknown = t
+after t (elect i Q) = electAfter t i Q
+after t (reconfigure i M) = reconfigureAfter t i M
+after t (send i j) = sendAfter t i j
+after t (spread i j) = spreadAfter t i j
+after t (write i) = writeAfter t i
+after t (fetch i j) = fetchAfter t i j
+after t (rollBack i j) = rollBackAfter t i j
+after t (commit i Q) = commitAfter t i Q
 
 -- the reply's number, 0 for taken, and the table afterwards
 pub record Outcome : Type 0 where

@@ -8,9 +8,9 @@ use borrow.Author.Tests.{eq-eqb, ne-eqb}
 use mir.Facts.{and-yes, eqb-no}
 use Rattle.members.proofs.Tests.{fails-false, false-fails}
 use Rattle.algorithm.specs.Table.{every, count}
-use Rattle.algorithm.specs.Actions.{Refusal, actionOf, after}
+use Rattle.algorithm.specs.Actions.{Refusal, actionOf}
 use Rattle.algorithm.specs.Refusals.{formRefusals, ownRefusals, refusals, first}
-use Rattle.algorithm.specs.Run.{step}
+use Rattle.algorithm.specs.Run.{after, step}
 use Rattle.algorithm.proofs.Kept.{step-sound}
 use Rattle.table.specs.Layout.{tableIn}
 use Rattle.table.specs.Slice.{Holds}

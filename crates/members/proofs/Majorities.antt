@@ -10,7 +10,7 @@ use lib.Bits.{bitAnd, bitXor, and-self}
 use lib.Count.{ones}
 use mir.Facts.{and-yes, yes-and}
 use Rattle.members.specs.Members.{member, Member, Subset, oneApart, Majority, majority, Meet, MajoritiesMeet, All, Some, Most, Hits, mask, allPass, somePass, mostPass}
-use Rattle.members.proofs.Tests.{Passes, Fails, both, together, contradiction, fails, passes-or-fails, equal, less, is-equal, is-less}
+use Rattle.members.proofs.Tests.{Passes, Fails, both, together, contradiction, fails, equal, less, is-equal, is-less}
 use Rattle.members.proofs.Counting.{count, count-some, count-mono, count-both, count-unlike}
 use Rattle.members.proofs.Masks.{fits, ext, ones-count, ones-shared, ones-unlike, and-member, in-mask, mask-in, member-pos, member-le, a-member, member-some}
 
@@ -167,9 +167,3 @@ module _ (n m : ℕ) (width : m < 2 ^ n) (p : ℕ → Bool) where
           subset-ones (x .by) (bitAnd m (mask n p)) (λ s u. passing s (x .majority .inside s u) (x .all s u)),
         );
       })
-
-  -- where no majority passes, every majority has a member that fails
-  pub majorities-fail : Fails (mostPass n p m) → Hits m (λ s. Fails (p s))
-  majorities-fail t q x =
-      ⊎-elim (λ all. absurd (contradiction t (pass-most (record { by = q; majority = x; all = all })))) (λ f. f)
-      (all-or-some (λ s. Passes (p s)) (λ s. Fails (p s)) (λ s. passes-or-fails (p s)) q)

@@ -73,10 +73,6 @@ false-fails e = record { no = rw e tt }
 pub and-told : (r s a b : Bool) → r ≡ a → s ≡ b → (r && s) ≡ (a && b)
 and-told r s a b e f = rw (e, f)
 
-pub passes-or-fails : (b : Bool) → Passes b ⊎ Fails b
-passes-or-fails true = inl (record { yes = tt })
-passes-or-fails false = inr (record { no = tt })
-
 module _ {a b : ℕ} where
   pub equal : Passes (eqb a b) → a ≡ b
   equal h = eqb→eq a b (h .yes)

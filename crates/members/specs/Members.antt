@@ -71,7 +71,8 @@ pub record Most (m : ℕ) (P : ℕ → Type 0) : Type 0 where
 abbrev pub Hits : ℕ → (ℕ → Type 0) → Type 0
 Hits m P = (q : ℕ) → Majority q m → Some q P
 
--- ---- the same as tests, for sets of servers 1 to n (proofs/Majorities: all-pass, none-passes, most-pass)
+-- ---- the same as tests, for sets of servers 1 to n (proofs/Majorities: all-pass and pass-all, some-passes and
+-- pass-some, most-pass and pass-most)
 
 -- 1 for a test that passes, 0 for one that fails
 abbrev pub one : Bool → ℕ

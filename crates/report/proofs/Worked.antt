@@ -3,9 +3,9 @@ use mathlib.Core.Path.{_≡_, refl}
 use lib.Count.{ones}
 use Rattle.members.specs.Members.{mask}
 use Rattle.algorithm.specs.Table.{nth, replace, every, trimmed, broken}
-use Rattle.algorithm.specs.Actions.{votersFrom, someMarked, holdsMarked, after}
+use Rattle.algorithm.specs.Actions.{votersFrom, someMarked, holdsMarked}
 use Rattle.algorithm.specs.Refusals.{refusals, first}
-use Rattle.algorithm.specs.Run.{step, pieces, play}
+use Rattle.algorithm.specs.Run.{after, step, pieces, play}
 use Rattle.texts.specs.Texts.{digits, decimal, field, fields}
 use Rattle.report.specs.Lines.{reply, repliedLine, letter, shownRow, marksLine}
 use Rattle.report.specs.Case.{repliedLines, rowLines, given, expected}

@@ -1,7 +1,7 @@
 -- `act::act` meets its contract. Assumes nothing.
 use native.Mathlib.Omega.{arith}
 use borrow.Author.Needs.{needs}
-use Rattle.algorithm.specs.Actions.{after}
+use Rattle.algorithm.specs.Run.{after}
 use Rattle.act.proofs.ReadyLaws.{sized, reads, no-other, i-within, j-within, elect-below, elect-within, reconfigure-below, write-room, fetch-room, roll-back-some, commit-some, did, did-by}
 use Rattle.act.proofs.act.Statement.{statement}
 use Rattle.act.proofs.act.Tie as tie
