@@ -9,7 +9,7 @@ use lib.ListN.{length, getD, set, replicate, length-set}
 use Rattle.members.proofs.Tests.{Passes, both, at-most}
 use Rattle.algorithm.specs.Table.{every, ceiling}
 use Rattle.algorithm.proofs.Lists.{every-cons}
-use Rattle.words.specs.Words.{wordOf, words, bytes, Put, between}
+use Rattle.words.specs.Words.{wordOf, words, bytes, putWord, Put, between}
 
 -- four bytes further on
 past : (k i : ℕ) → 4 * suc k + i ≡ suc (suc (suc (suc (4 * k + i))))
@@ -63,9 +63,13 @@ word-of v h =
     (omega arith)
 
 pub word-put : (b : List ℕ) (k v : ℕ) → 4 * k + 4 ≤ length b → v < 4294967296
-    → Put b (stores b k (v % 256) (v / 256 % 256) (v / 65536 % 256) (v / 16777216 % 256)) k v
+    → Put b (putWord b k v) k v
 word-put b k v h l =
-    record { sized = simp length-set; word = word-stores b k _ _ _ _ h ∙ ap (λ (x : ℕ). set (words b) k x) (word-of v l) }
+    record { bytes = refl; sized = simp length-set; word = word-stores b k _ _ _ _ h ∙ ap (λ (x : ℕ). set (words b) k x) (word-of v l) }
+
+-- two slices that satisfy it are equal
+pub put-unique : {b b' b'' : List ℕ} {k v : ℕ} → Put b b' k v → Put b b'' k v → b' ≡ b''
+put-unique p q = p .bytes ∙ sym (q .bytes)
 
 -- ---- the bytes of words, and the words of bytes
 

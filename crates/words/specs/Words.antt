@@ -23,8 +23,14 @@ unfoldable pub bytes : List ℕ → List ℕ
 bytes [] = []
 bytes (w ∷ r) = w % 256 ∷ w / 256 % 256 ∷ w / 65536 % 256 ∷ w / 16777216 % 256 ∷ bytes r
 
--- the slice b has become b': v is put into its word k
+-- b with the four bytes of v for its word k
+abbrev pub putWord : List ℕ → ℕ → ℕ → List ℕ
+putWord b k v =
+    set (set (set (set b (4 * k) (v % 256)) (4 * k + 1) (v / 256 % 256)) (4 * k + 2) (v / 65536 % 256)) (4 * k + 3) (v / 16777216 % 256)
+
+-- the slice b has become b': v is put into its word k, so that it is as long as before and its words are
 pub record Put (b b' : List ℕ) (k v : ℕ) : Type 0 where
+  pub bytes : b' ≡ putWord b k v
   pub sized : length b' ≡ length b
   pub word : words b' ≡ set (words b) k v
 
