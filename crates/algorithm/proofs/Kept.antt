@@ -9,23 +9,23 @@ use lib.Dec.{leb, ltb}
 use lib.ListN.{length, take, length-append, length-take, length-replicate}
 use Rattle.members.specs.Members.{within}
 use Rattle.members.proofs.Tests.{Passes, Fails, together, refuted, both-refuted, equal, unequal, less, above, is-at-most}
-use Rattle.algorithm.specs.Table.{Entry, Log, Table, every, count, server, primary, entryAt, ceiling, positions, soundEntry, soundServer, broken, freshServer, fresh}
-use Rattle.algorithm.specs.Actions.{withServer, withConfig, withLog, steppedDown, winner, nextConfig, appended, joins, Action, unknown, elect, reconfigure, send, spread, write, fetch, rollBack, commit, actionOf}
+use Rattle.algorithm.specs.Table.{every, Log, Table, count, server, primary, termAt, withServer, changed, withConfig, withLog, withEntry, ceiling, positions, soundEntry, soundServer, broken, freshServer, fresh}
+use Rattle.algorithm.specs.Actions.{Action, elect, reconfigure, commit, send, spread, fetch, rollBack, write, unknown, actionOf, steppedDown, winner, nextConfig, joins}
 use Rattle.algorithm.specs.Run.{after, step}
 use Rattle.algorithm.proofs.Lists.{every-nth, every-plus, every-take, every-replicate}
 use Rattle.algorithm.proofs.Refused.{Taken, outcome}
 use Rattle.algorithm.proofs.Seen.{count-voted}
-use Rattle.algorithm.proofs.Sound.{SoundServer, SoundTable, table-sound, sound-table, sound-server, here-sound, with-sound, mark-sound, stepped-sound, voted-sound}
+use Rattle.algorithm.proofs.Sound.{SoundServer, SoundTable, sound-server, table-sound, sound-table, here-sound, with-sound, mark-sound, stepped-sound, voted-sound}
 
 module _ {t : Table} (h : SoundTable t) (i : ℕ) (a : SoundServer (count t) (server t i)) where
   log-sound : (l : Log) → length l ≤ positions → Passes (every soundEntry l) → SoundTable (withServer t i (withLog l (server t i)))
   log-sound l short e =
       with-sound h i (withLog l (server t i)) (record { role = a .role; term = a .term; config = a .config; short = short; entries = e })
 
-  appended-sound : (e : Entry) → length (server t i .log) < positions → Passes (soundEntry e) → SoundTable (appended t i e)
-  appended-sound e short s =
-      log-sound (server t i .log ++ (e ∷ [])) (omega (arith, length-append (server t i .log) (e ∷ [])))
-      (every-plus soundEntry (server t i .log) e (a .entries) s)
+  entry-sound : (v : ℕ) → length (server t i .log) < positions → Passes (soundEntry (record { term = v })) → SoundTable (changed t i (withEntry v))
+  entry-sound v short s =
+      log-sound (server t i .log ++ (record { term = v } ∷ [])) (omega (arith, length-append (server t i .log) (record { term = v } ∷ [])))
+      (every-plus soundEntry (server t i .log) (record { term = v }) (a .entries) s)
 
   -- a primary's term can be an entry
   primary-term : Fails (not (primary (server t i))) → Passes (soundEntry (record { term = server t i .term }))
@@ -80,7 +80,7 @@ after-sound t (write i) k =
     let h = table-sound (k .sound) in
     let a = here-sound h i (k .fit) in
     let (leads, (room, _)) = k .own in
-    appended-sound h i a (record { term = server t i .term }) (above room) (primary-term h i a leads)
+    entry-sound h i a (server t i .term) (above room) (primary-term h i a leads)
 after-sound t (fetch i j) k =
     let h = table-sound (k .sound) in
     let b = here-sound h j (k .fit .1) in
@@ -89,7 +89,7 @@ after-sound t (fetch i j) k =
     let m : Log = server t j .log in
     let (first, _) = both-refuted {a = ltb (length l) (length m)} {b = joins l m} goes-on in
     let longer : length l < length m = less first in
-    appended-sound h i (here-sound h i (k .fit .0)) (entryAt m (length l + 1)) (omega (arith, b .short))
+    entry-sound h i (here-sound h i (k .fit .0)) (termAt m (length l + 1)) (omega (arith, b .short))
     (every-nth soundEntry m (length l + 1) (record { term = 0 }) (b .entries) (omega arith) (omega arith))
 after-sound t (rollBack i j) k =
     let h = table-sound (k .sound) in

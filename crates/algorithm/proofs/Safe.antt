@@ -5,17 +5,16 @@ use mathlib.Core.Logic.{inl, inr, ⊎-elim}
 use mathlib.Core.Path.{_≡_, refl, ap}
 use native.Mathlib.Omega.{arith}
 use lib.ListN.{length, getD, replicate}
-use Rattle.algorithm.specs.Table.{nth, server, mark, fresh, positions}
-use Rattle.algorithm.specs.Actions.{withLog}
+use Rattle.algorithm.specs.Table.{nth, server, mark, withLog, positions, fresh}
 use Rattle.algorithm.specs.Logless as logless
 use Rattle.algorithm.specs.Logless.{core, Fresh}
 use Rattle.algorithm.proofs.Logs.{Holds}
 use Rattle.algorithm.proofs.Invariant.{Inv}
 use Rattle.algorithm.proofs.Elections.{inv-fresh, inv-move}
-use Rattle.algorithm.proofs.LogInvariant.{LogInv}
-use Rattle.algorithm.proofs.Full.{View, Marked, config, write, fetch, roll-back, commit, Move, rests, takes}
-use Rattle.algorithm.proofs.Safety.{logs-after}
+use Rattle.algorithm.proofs.Full.{View, Marked, write, Move, config, fetch, roll-back, commit, rests, takes}
 use Rattle.algorithm.proofs.Seen.{view, server-fresh}
+use Rattle.algorithm.proofs.LogInvariant.{LogInv}
+use Rattle.algorithm.proofs.Safety.{logs-after}
 
 pub record Safe (v : View) : Type 0 where
   pub configs : Inv (v .core)

@@ -11,8 +11,8 @@ use lib.ListN.{length, getD, List·getD-eq-default, replicate}
 use Rattle.members.specs.Members.{member, within}
 use Rattle.members.proofs.Tests.{Passes, both, less, at-most}
 use Rattle.members.proofs.Masks.{member-above}
-use Rattle.algorithm.specs.Table.{Log, Server, Table, nth, server, mark, count, absent, freshServer, fresh}
-use Rattle.algorithm.specs.Actions.{withServer, withLog, steppedDown, votersFrom, voted}
+use Rattle.algorithm.specs.Table.{nth, Log, Server, Table, count, absent, server, mark, withServer, withLog, freshServer, fresh}
+use Rattle.algorithm.specs.Actions.{steppedDown, votersFrom, voted}
 use Rattle.algorithm.specs.Refusals.{known}
 use Rattle.algorithm.specs.Logless as logless
 use Rattle.algorithm.specs.Logless.{State, core, put}

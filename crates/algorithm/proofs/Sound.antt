@@ -9,8 +9,8 @@ use lib.Dec.{leb}
 use lib.ListN.{length}
 use Rattle.members.specs.Members.{member, within}
 use Rattle.members.proofs.Tests.{Passes, Fails, both, together, either, first-of, second-of, refuted, unrefuted, equal, at-most, is-equal, is-at-most}
-use Rattle.algorithm.specs.Table.{Config, Server, Table, replace, every, count, server, absent, primary, secondary, ceiling, positions, soundConfig, soundEntry, soundServer, broken}
-use Rattle.algorithm.specs.Actions.{withServer, steppedDown, votersFrom, voted}
+use Rattle.algorithm.specs.Table.{replace, every, Config, Server, Table, count, absent, server, primary, secondary, withServer, ceiling, positions, soundConfig, soundEntry, soundServer, broken}
+use Rattle.algorithm.specs.Actions.{steppedDown, votersFrom, voted}
 use Rattle.algorithm.specs.Refusals.{known}
 use Rattle.algorithm.proofs.Choice.{cond-elim}
 use Rattle.algorithm.proofs.Lists.{length-replace, every-cons, cons-every, every-nth, every-replace}

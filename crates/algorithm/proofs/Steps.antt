@@ -5,13 +5,13 @@ use mathlib.Core.Logic.{inl, inr}
 use mathlib.Core.Path.{_≡_, refl, sym, ap, _∙_}
 use native.Mathlib.Omega.{arith}
 use lib.Dec.{T, T-not}
-use Rattle.members.specs.Members.{Member, member, All, MajoritiesMeet}
+use Rattle.members.specs.Members.{member, Member, MajoritiesMeet, All}
 use Rattle.members.proofs.Majorities.{most-and-hits}
-use Rattle.algorithm.specs.Table.{Config, Server}
+use Rattle.algorithm.specs.Table.{Config, Server, withConfig}
 use Rattle.algorithm.specs.Comparisons.{newer}
-use Rattle.algorithm.specs.Actions.{withConfig, steppedDown, winner, nextConfig}
-use Rattle.algorithm.specs.Logless.{State, Action, elect, reconfigure, send, spread, CanElect, CanReconfigure, CanSend, Allowed, after, voted}
-use Rattle.algorithm.proofs.Choice.{cond-elim, put-elim, put-same}
+use Rattle.algorithm.specs.Actions.{steppedDown, winner, nextConfig}
+use Rattle.algorithm.specs.Logless.{State, Action, elect, reconfigure, send, spread, CanElect, CanReconfigure, CanSend, Allowed, voted, after}
+use Rattle.algorithm.proofs.Choice.{cond-elim, put-same, put-elim}
 use Rattle.algorithm.proofs.Orders.{larger, not-larger}
 use Rattle.algorithm.proofs.Invariant.{_≼_, Has, here, Leads, led, Active, Inv, Change, Step, kept}
 

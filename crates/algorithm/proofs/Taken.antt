@@ -10,11 +10,11 @@ use native.Mathlib.Omega.{arith}
 use lib.Dec.{ltb, eqb}
 use lib.ListN.{length, take, List·getD-eq-default}
 use Rattle.members.specs.Members.{member, within, majority}
-use Rattle.members.proofs.Tests.{Passes, both, together, either, neither, refuted, both-refuted, contradiction, equal, unequal, less, not-less, at-most, is-equal, is-at-most}
-use Rattle.members.proofs.Majorities.{majority-is, one-apart, all-pass, none-passes, most-pass, most-map}
-use Rattle.algorithm.specs.Table.{Log, Server, Table, nth, count, server, primary, entryAt, mark, positions}
+use Rattle.members.proofs.Tests.{Passes, both, together, either, neither, refuted, contradiction, both-refuted, equal, unequal, less, not-less, at-most, is-equal, is-at-most}
+use Rattle.members.proofs.Majorities.{majority-is, one-apart, most-map, all-pass, none-passes, most-pass}
+use Rattle.algorithm.specs.Table.{nth, Log, Server, Table, count, server, primary, entryAt, mark, withConfig, withLog, positions}
 use Rattle.algorithm.specs.Comparisons.{newer, held, prefix}
-use Rattle.algorithm.specs.Actions.{withConfig, withLog, steppedDown, voted, winner, nextConfig, p1, someMarked, holdsMarked, electAfter, reconfigureAfter, sendAfter, spreadAfter, writeAfter, fetchAfter, rollBackAfter, commitRefusals, commitAfter, Action, unknown, elect, reconfigure, send, spread, write, fetch, rollBack, commit, actionOf}
+use Rattle.algorithm.specs.Actions.{Action, elect, reconfigure, commit, send, spread, fetch, rollBack, write, unknown, actionOf, steppedDown, voted, winner, electAfter, someMarked, holdsMarked, p1, nextConfig, reconfigureAfter, sendAfter, spreadAfter, writeAfter, fetchAfter, rollBackAfter, commitRefusals, commitAfter}
 use Rattle.algorithm.specs.Refusals.{known}
 use Rattle.algorithm.specs.Run.{after, step}
 use Rattle.algorithm.specs.Demand.{wins, wonBy}
@@ -25,7 +25,7 @@ use Rattle.algorithm.proofs.Refused.{NoneHold, Taken, outcome}
 use Rattle.algorithm.proofs.Logs.{Holds, Prefix}
 use Rattle.algorithm.proofs.Full as full
 use Rattle.algorithm.proofs.Full.{View, Settled, CanCommit, Move, rests, takes}
-use Rattle.algorithm.proofs.Seen.{view, view-is, view-core, view-log, within-width, count-voted, core-voted, log-voted}
+use Rattle.algorithm.proofs.Seen.{view, view-is, within-width, view-core, view-log, count-voted, log-voted, core-voted}
 use Rattle.algorithm.proofs.Sound.{SoundTable, table-sound, here-sound}
 
 -- ---- what the tests mean

@@ -1,12 +1,12 @@
 -- The eight actions: the bytes that name one; for each kind the refusals that are its own, lowest first, and the table after it.
 -- A byte is any number here; those that come from a slice are below 256. Assumes nothing.
-use Prim.Native.Nat.{ℕ, zero, suc, _+_, _-_, _*_}
+use Prim.Native.Nat.{ℕ, zero, suc, _+_, _*_}
 use mathlib.Core.Bool.{Bool, true, false, cond, not, _&&_, _||_}
-use mathlib.Core.List.{List, [], _∷_, _++_}
+use mathlib.Core.List.{List, [], _∷_}
 use lib.Dec.{leb, ltb, eqb}
-use lib.ListN.{length, getD, take}
+use lib.ListN.{length, getD}
 use Rattle.members.specs.Members.{member, oneApart, majority, allPass, somePass, mostPass}
-use Rattle.algorithm.specs.Table.{Config, Entry, Log, Server, Table, replace, count, server, primary, secondary, entryAt, termAt, mark, ceiling, positions}
+use Rattle.algorithm.specs.Table.{Config, Log, Server, Table, count, server, primary, secondary, termAt, mark, withServer, changed, withMark, withConfig, withEntry, withoutLast, ceiling, positions}
 use Rattle.algorithm.specs.Comparisons.{newer, last, ahead, held, prefix}
 
 -- ---- the bytes: kind, i, j, 0, set (low byte first), 0, 0
@@ -65,18 +65,6 @@ pub record Refusal : Type 0 where
 -- refusal k, which holds where b does
 abbrev pub refuse : ℕ → Bool → Refusal
 refuse k b = record { number = k; holds = b }
-
--- the table with s as server i
-abbrev pub withServer : Table → ℕ → Server → Table
-withServer t i s = record { servers = replace (t .servers) i s; marks = t .marks }
-
--- the server with the configuration C
-abbrev pub withConfig : Config → Server → Server
-withConfig C s = record { role = s .role; term = s .term; config = C; log = s .log }
-
--- the server with the log l
-abbrev pub withLog : Log → Server → Server
-withLog l s = record { role = s .role; term = s .term; config = s .config; log = l }
 
 -- the server with the term T, secondary
 abbrev pub steppedDown : ℕ → Server → Server
@@ -224,15 +212,9 @@ writeRefusals t i =
     let a = server t i in
     refuse 6 (not (primary a)) ∷ refuse 19 (leb positions (length (a .log))) ∷ []
 
--- the table with e at the end of i's log
-abbrev pub appended : Table → ℕ → Entry → Table
-appended t i e =
-    let a = server t i in
-    withServer t i (withLog (a .log ++ (e ∷ [])) a)
-
 -- i's term stands at the end of its log
 abbrev pub writeAfter : Table → ℕ → Table
-writeAfter t i = appended t i (record { term = server t i .term })
+writeAfter t i = changed t i (withEntry (server t i .term))
 
 -- ---- 6: fetch to i from j
 
@@ -251,7 +233,7 @@ fetchRefusals t i j =
 
 -- i's log has gained j's next entry
 abbrev pub fetchAfter : Table → ℕ → ℕ → Table
-fetchAfter t i j = appended t i (entryAt (server t j .log) (length (server t i .log) + 1))
+fetchAfter t i j = changed t i (withEntry (termAt (server t j .log) (length (server t i .log) + 1)))
 
 -- ---- 7: roll back i against j
 
@@ -264,17 +246,15 @@ rollBackRefusals t i j =
 
 -- i's last entry is gone
 abbrev pub rollBackAfter : Table → ℕ → ℕ → Table
-rollBackAfter t i j =
-    let a = server t i in
-    withServer t i (withLog (take (length (a .log) - 1) (a .log)) a)
+rollBackAfter t i j = changed t i withoutLast
 
 -- ---- 8: commit at i by the set Q
 
--- server s has i's term, and holds an entry of that term where i has its last one
-abbrev pub holdsLast : Table → ℕ → ℕ → Bool
-holdsLast t i s = sameTerm t i s && held (server t s .log) (length (server t i .log)) (server t i .term)
+-- server s has i's term, and holds an entry of that term at position p
+abbrev pub supportsAt : Table → ℕ → ℕ → ℕ → Bool
+supportsAt t i p s = sameTerm t i s && held (server t s .log) p (server t i .term)
 
--- commit: 6, 7 and 22 to 24
+-- commit: 6, 7 and 22 to 24; i's last entry stands at p, and is of i's term where 22 does not hold
 abbrev pub commitRefusals : Table → ℕ → ℕ → List Refusal
 commitRefusals t i Q =
     let a = server t i in
@@ -282,7 +262,7 @@ commitRefusals t i Q =
     refuse 6 (not (primary a))
     ∷ refuse 7 (not (majority Q (a .config .set)))
     ∷ refuse 22 (eqb p 0 || not (eqb (last (a .log)) (a .term)))
-    ∷ refuse 23 (not (allPass (count t) (holdsLast t i) Q))
+    ∷ refuse 23 (not (allPass (count t) (supportsAt t i p) Q))
     ∷ refuse 24 (not (eqb (mark t p) 0) && not (eqb (mark t p) (a .term)))
     ∷ []
 
@@ -290,4 +270,4 @@ commitRefusals t i Q =
 abbrev pub commitAfter : Table → ℕ → ℕ → Table
 commitAfter t i Q =
     let a = server t i in
-    record { servers = t .servers; marks = replace (t .marks) (length (a .log)) (a .term) }
+    withMark t (length (a .log)) (a .term)

@@ -1,11 +1,11 @@
 -- The worked cases of document 01 that are marked to be proved, in its order, each with what it must give. Assumes nothing.
 use Prim.Native.Nat.{ℕ, _/_, _%_}
-use mathlib.Core.List.{List, [], _∷_, _++_, map}
+use mathlib.Core.List.{List, [], _∷_, _++_}
 use lib.ListN.{length}
 use Rattle.members.specs.Members.{one}
-use Rattle.algorithm.specs.Table.{Log, Table, server, freshServer, fresh}
+use Rattle.algorithm.specs.Table.{entries, Table, server, withServer, withLog, freshServer, fresh}
 use Rattle.algorithm.specs.Comparisons.{newer, ahead}
-use Rattle.algorithm.specs.Actions.{withLog, withServer, winner}
+use Rattle.algorithm.specs.Actions.{winner}
 use Rattle.algorithm.specs.Run.{run}
 
 infix 20 _gives_
@@ -26,14 +26,10 @@ bytes kind i j m = kind ∷ i ∷ j ∷ 0 ∷ m % 256 ∷ m / 256 ∷ 0 ∷ 0 �
 abbrev pub replies : Table → List ℕ → List ℕ
 replies t p = run t p .replies
 
--- a log of these terms
-abbrev pub log : List ℕ → Log
-log = map (λ T. record { term = T })
-
 -- two secondaries with these logs
 abbrev pub two : List ℕ → List ℕ → Table
 two l m =
-    withServer (withServer (fresh 2 3) 1 (withLog (log l) (freshServer 3))) 2 (withLog (log m) (freshServer 3))
+    withServer (withServer (fresh 2 3) 1 (withLog (entries l) (freshServer 3))) 2 (withLog (entries m) (freshServer 3))
 
 -- one server, primary of term 1
 abbrev pub alone : Table
@@ -50,8 +46,8 @@ cases =
     ∷ (replies (fresh 4 15) (bytes 1 1 0 3) gives 7 ∷ [])
     ∷ (replies (fresh 4 15) (bytes 1 1 0 7) gives 0 ∷ [])
     ∷ (one (newer (record { set = 1; version = 1; term = 2 }) (record { set = 1; version = 9; term = 1 })) ∷ [] gives 1 ∷ [])
-    ∷ (one (ahead (log (2 ∷ [])) (log (1 ∷ 1 ∷ 1 ∷ []))) ∷ [] gives 1 ∷ [])
-    ∷ (one (ahead (log (1 ∷ 1 ∷ [])) (log (1 ∷ []))) ∷ [] gives 1 ∷ [])
+    ∷ (one (ahead (entries (2 ∷ [])) (entries (1 ∷ 1 ∷ 1 ∷ []))) ∷ [] gives 1 ∷ [])
+    ∷ (one (ahead (entries (1 ∷ 1 ∷ [])) (entries (1 ∷ []))) ∷ [] gives 1 ∷ [])
     ∷ (replies (two (1 ∷ []) (2 ∷ 2 ∷ [])) (bytes 6 1 2 0) gives 20 ∷ [])
     ∷ (replies (two (1 ∷ []) (1 ∷ 2 ∷ [])) (bytes 6 1 2 0) gives 0 ∷ [])
     ∷ (replies (two (1 ∷ 1 ∷ []) (2 ∷ [])) backTwice gives 0 ∷ 0 ∷ [])

@@ -6,10 +6,10 @@ use mathlib.Core.List.{List, [], _∷_, _++_}
 use mathlib.Core.Logic.{_⊎_}
 use mathlib.Core.Path.{_≡_}
 use lib.Dec.{T, eqb}
-use Rattle.members.specs.Members.{Member, Majority, MajoritiesMeet, All, Most, member}
-use Rattle.algorithm.specs.Table.{Server, Table, server, absent, freshServer}
+use Rattle.members.specs.Members.{member, Member, Majority, MajoritiesMeet, All, Most}
+use Rattle.algorithm.specs.Table.{Server, Table, absent, server, withConfig, withLog, freshServer}
 use Rattle.algorithm.specs.Comparisons.{newer}
-use Rattle.algorithm.specs.Actions.{withConfig, withLog, steppedDown, winner, nextConfig}
+use Rattle.algorithm.specs.Actions.{steppedDown, winner, nextConfig}
 
 -- the servers by their numbers n; their logs are not looked at
 abbrev pub State : Type 0

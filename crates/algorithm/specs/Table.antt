@@ -1,9 +1,9 @@
 -- The table: its figures, its rules, and a fresh one. Assumes nothing.
-use Prim.Native.Nat.{ℕ, zero, suc}
+use Prim.Native.Nat.{ℕ, zero, suc, _-_}
 use mathlib.Core.Bool.{Bool, true, not, _&&_, _||_}
-use mathlib.Core.List.{List, [], _∷_}
+use mathlib.Core.List.{List, [], _∷_, _++_, map}
 use lib.Dec.{leb, eqb}
-use lib.ListN.{length, getD, set, replicate}
+use lib.ListN.{length, getD, set, take, replicate}
 use Rattle.members.specs.Members.{within}
 
 -- ---- lists counted from 1
@@ -39,6 +39,10 @@ pub record Entry : Type 0 where
 -- a log: its entries in order
 abbrev pub Log : Type 0
 Log = List Entry
+
+-- the log of these terms
+abbrev pub entries : List ℕ → Log
+entries l = map (λ T. record { term = T }) l
 
 -- a server: its role is 0 for secondary, 1 for primary
 pub record Server : Type 0 where
@@ -83,6 +87,44 @@ termAt l p = entryAt l p .term
 -- the term committed at a position, or 0
 abbrev pub mark : Table → ℕ → ℕ
 mark t p = nth (t .marks) p 0
+
+-- ---- a table with other figures
+
+-- the table with s as server i
+abbrev pub withServer : Table → ℕ → Server → Table
+withServer t i s = record { servers = replace (t .servers) i s; marks = t .marks }
+
+-- the table with server i changed by f
+abbrev pub changed : Table → ℕ → (Server → Server) → Table
+changed t i f = withServer t i (f (server t i))
+
+-- the table with the mark v at position p
+abbrev pub withMark : Table → ℕ → ℕ → Table
+withMark t p v = record { servers = t .servers; marks = replace (t .marks) p v }
+
+-- the server with the role v
+abbrev pub withRole : ℕ → Server → Server
+withRole v s = record { role = v; term = s .term; config = s .config; log = s .log }
+
+-- the server with the term T
+abbrev pub withTerm : ℕ → Server → Server
+withTerm T s = record { role = s .role; term = T; config = s .config; log = s .log }
+
+-- the server with the configuration C
+abbrev pub withConfig : Config → Server → Server
+withConfig C s = record { role = s .role; term = s .term; config = C; log = s .log }
+
+-- the server with the log l
+abbrev pub withLog : Log → Server → Server
+withLog l s = record { role = s .role; term = s .term; config = s .config; log = l }
+
+-- the server with an entry of the term T behind its log
+abbrev pub withEntry : ℕ → Server → Server
+withEntry T s = withLog (s .log ++ (record { term = T } ∷ [])) s
+
+-- the server without its last entry
+abbrev pub withoutLast : Server → Server
+withoutLast s = withLog (take (length (s .log) - 1) (s .log)) s
 
 -- ---- rules
 

@@ -9,18 +9,16 @@ use lib.Dec.{leb, eqb}
 use lib.ListN.{length, getD, take, drop, length-drop, length-map}
 use lib.Seq.{take-all, length-take-le}
 use borrow.Author.Tests.{le-leb, ne-eqb}
-use Rattle.algorithm.specs.Table.{nth, every, ceiling, soundEntry, soundServer}
-use Rattle.algorithm.specs.Actions.{withLog}
+use Rattle.algorithm.specs.Table.{nth, every, entries, withLog, ceiling, soundEntry, soundServer}
 use Rattle.figures.specs.Figures.{figured}
 use Rattle.words.specs.Words.{words, part, between}
-use Rattle.table.specs.Layout.{entries}
 use Rattle.words.proofs.WordLaws.{length-words}
 use Rattle.table.proofs.SoundLaws.{server-parts}
-use Rattle.bodies.specs.declared.Figures.{Figures}
-use Rattle.contents.specs.Contents.{countIn, halfAt, offset, size, stop}
+use Rattle.contents.specs.Contents.{halfAt, countIn, offset, size, stop}
+use Rattle.contents.proofs.BelowLaws.{Tested}
 use Rattle.bodies.specs.Bodies.{body, serverIn, soundMarksBody, soundServerBody, soundAt, soundBodies}
 use Rattle.bodies.specs.Asked.{Names, Named, Sized, figuresOf}
-use Rattle.contents.proofs.BelowLaws.{Tested}
+use Rattle.bodies.specs.declared.Figures.{Figures}
 
 -- ---- the marks
 

@@ -4,9 +4,9 @@ use mathlib.Core.Bool.{Bool, _&&_, _||_}
 use mathlib.Core.List.{List}
 use lib.Dec.{leb, eqb}
 use lib.ListN.{length, getD, take, drop}
-use Rattle.algorithm.specs.Table.{Server, nth, every, ceiling, positions, soundServer}
+use Rattle.algorithm.specs.Table.{nth, every, entries, Server, ceiling, positions, soundServer}
 use Rattle.words.specs.Words.{words, between}
-use Rattle.table.specs.Layout.{padded, entries}
+use Rattle.table.specs.Layout.{padded}
 use Rattle.contents.specs.Contents.{halfAt, countIn, offset, size, allBelow}
 
 -- the part of the input that entry e names

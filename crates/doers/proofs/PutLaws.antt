@@ -3,11 +3,11 @@ use Prim.Native.Nat.{ℕ, _+_, _≤_}
 use mathlib.Core.Path.{_≡_, _∙_}
 use mathlib.Core.List.{List, [], _∷_, _++_}
 use lib.ListN.{length}
-use Rattle.algorithm.specs.Table.{Server, server, absent, termAt}
-use Rattle.algorithm.specs.Actions.{withServer, withConfig, withLog, steppedDown, spreadAfter, sendAfter, reconfigureAfter, writeAfter, fetchAfter, commitAfter}
-use Rattle.table.specs.declared.rows.Row.{Row}
+use Rattle.algorithm.specs.Table.{Server, absent, server, termAt, withServer, withMark, withRole, withTerm, withConfig, withLog}
+use Rattle.algorithm.specs.Actions.{steppedDown, reconfigureAfter, sendAfter, spreadAfter, writeAfter, fetchAfter, commitAfter}
 use Rattle.table.specs.Layout.{tableIn}
-use Rattle.table.specs.Slice.{Holds, Held, Became, Within, withRole, withTerm, withMark, seen}
+use Rattle.table.specs.Slice.{Holds, Held, Became, Within, seen}
+use Rattle.table.specs.declared.rows.Row.{Row}
 use Rattle.table.proofs.ListLaws.{nth-replaced, replace-replace}
 use Rattle.table.proofs.HeldLaws.{its-table, its-room}
 

@@ -7,11 +7,10 @@ use mathlib.Core.List.{List, [], _∷_, _++_, append-nil}
 use lib.ListN.{length, getD, set, drop, replicate, length-set, length-append, length-replicate, replicate-append-replicate}
 use borrow.Author.Fill.{fill-none, fill-more}
 use lib.Seq.{drop-length, set-at, getD-at, append-snoc}
-use Rattle.algorithm.specs.Table.{Server, Table, absent, nth, replace, count, freshServer, fresh}
-use Rattle.algorithm.specs.Actions.{withConfig}
+use Rattle.algorithm.specs.Table.{nth, replace, Server, Table, count, absent, changed, withConfig, freshServer, fresh}
 use Rattle.words.specs.Words.{words, Put}
 use Rattle.table.specs.Layout.{padded, rows, layout, tableIn}
-use Rattle.table.specs.Slice.{AllRoomy, Holds, Held, Became, Within, changed, blank}
+use Rattle.table.specs.Slice.{AllRoomy, Holds, Held, Became, Within, blank}
 use Rattle.table.proofs.LayoutLaws.{rows-none}
 use Rattle.table.proofs.HeldLaws.{its-table, held}
 

@@ -6,21 +6,20 @@ use mathlib.Core.Path.{_≡_, refl, ap, sym, subst, _∙_}
 use mathlib.Core.List.{List, [], _∷_, _++_, append-nil}
 use lib.ListN.{length, getD, set, take, drop, replicate, length-append, length-map, length-replicate}
 use lib.Seq.{take-all, length-take-le, getD-drop, set-at, getD-at, append-snoc}
-use Rattle.algorithm.specs.Table.{Config, Log, Server, Table, absent, nth, replace, server}
-use Rattle.algorithm.specs.Actions.{withServer, withConfig, withLog}
+use Rattle.algorithm.specs.Table.{nth, replace, Config, Log, entries, Server, Table, absent, server, withServer, changed, withMark, withRole, withTerm, withConfig, withLog, withEntry}
 use Rattle.words.specs.Words.{words}
-use Rattle.table.specs.Layout.{padded, entries, tableIn}
-use Rattle.table.specs.Slice.{Holds, Held, Became, Within, changed, withRole, withTerm, withEntry, withMark, blank}
 use Rattle.words.proofs.WordLaws.{length-words}
+use Rattle.table.specs.Layout.{padded, tableIn}
+use Rattle.table.specs.Slice.{Holds, Held, Became, Within, blank}
 use Rattle.table.proofs.ListLaws.{replace-nth, nth-replaced}
 use Rattle.table.proofs.HeldLaws.{its-table, held, again}
-use Rattle.bodies.specs.declared.Figures.{Figures}
 use Rattle.contents.specs.Contents.{countIn, offset, stop}
 use Rattle.bodies.specs.Bodies.{body, marksIn, serverIn}
-use Rattle.image.specs.Reader.{serversTo, readTable}
 use Rattle.bodies.specs.Asked.{Names, Named, Sized, figuresOf, withFigures}
-use Rattle.image.specs.Filling.{withMarks, unread}
+use Rattle.bodies.specs.declared.Figures.{Figures}
 use Rattle.bodies.proofs.BodyLaws.{length-rest, part-body}
+use Rattle.image.specs.Reader.{serversTo, readTable}
+use Rattle.image.specs.Filling.{withMarks, unread}
 
 -- one change after another
 onward : {b b₁ b₂ : List ℕ} {t : Table} (f : Table → Table) → Became b b₁ t → Became b₁ b₂ (f (tableIn b₁)) → Became b b₂ (f t)

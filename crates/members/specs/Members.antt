@@ -84,14 +84,18 @@ unfoldable pub mask : ℕ → (ℕ → Bool) → ℕ
 mask zero p = 0
 mask (suc k) p = one (p (suc k)) * 2 ^ k + mask k p
 
+-- the members of q that pass p
+abbrev pub passing : ℕ → (ℕ → Bool) → ℕ → ℕ
+passing n p q = bitAnd q (mask n p)
+
 -- every member of q passes p
 abbrev pub allPass : ℕ → (ℕ → Bool) → ℕ → Bool
-allPass n p q = eqb (bitAnd q (mask n p)) q
+allPass n p q = eqb (passing n p q) q
 
 -- some member of q passes p
 abbrev pub somePass : ℕ → (ℕ → Bool) → ℕ → Bool
-somePass n p q = ltb 0 (bitAnd q (mask n p))
+somePass n p q = ltb 0 (passing n p q)
 
 -- the members of m that pass p are a majority of m
 abbrev pub mostPass : ℕ → (ℕ → Bool) → ℕ → Bool
-mostPass n p m = majority (bitAnd m (mask n p)) m
+mostPass n p m = majority (passing n p m) m

@@ -7,12 +7,11 @@ use mathlib.Core.Path.{_≡_, refl, sym, ap, _∙_}
 use mathlib.Core.Bool.{Bool, true, false, not, cond, _&&_, _||_, and-true, and-comm}
 use lib.Dec.{eqb}
 use borrow.Author.Tests.{eq-eqb, ne-eqb, not-true}
+use Rattle.members.specs.Members.{passing}
 use Rattle.members.proofs.Masks.{and-both}
 use Rattle.algorithm.specs.Table.{Table, count, server, mark}
 use Rattle.algorithm.specs.Comparisons.{held}
-use Rattle.algorithm.specs.Actions.{someMarked, holdsMarked, sameTerm, holdsCommitted}
-use Rattle.comparisons.specs.Support.{supportsAt}
-use Rattle.questions.specs.Questions.{passing}
+use Rattle.algorithm.specs.Actions.{sameTerm, someMarked, holdsMarked, holdsCommitted, supportsAt}
 use Rattle.questions.specs.Marks.{markedPast, narrowedAt, narrowedPast}
 
 -- ---- some position is marked
@@ -71,7 +70,7 @@ module _ (o : ℕ) (t : Table) (i q : ℕ) where
 -- ---- every marked position is held
 
 module _ (t : Table) (i q p x v : ℕ) (e : x ≡ mark t p) (f : v ≡ server t i .term) where
-  pub marked-at : (r : ℕ) → x ≡ v → r ≡ passing t (supportsAt t i p) q
+  pub marked-at : (r : ℕ) → x ≡ v → r ≡ passing (count t) (supportsAt t i p) q
       → r ≡ narrowedAt t i p q
   marked-at r h g = rw (eq-eqb (mark t p) (server t i .term) (sym e ∙ h ∙ f)) g
 
@@ -85,13 +84,13 @@ module _ (t : Table) (i q : ℕ) where
 
   -- those of q
   pub record Holding (k m : ℕ) : Type 0 where
-    pub are : m ≡ passing t (holdsTo k) q
+    pub are : m ≡ passing (count t) (holdsTo k) q
 
   -- two tests that answer alike have one mask
-  alike : (f g : ℕ → Bool) → ((s : ℕ) → f s ≡ g s) → passing t f q ≡ passing t g q
-  alike f g e = ap (λ (h : ℕ → Bool). passing t h q) (λ d s. e s d)
+  alike : (f g : ℕ → Bool) → ((s : ℕ) → f s ≡ g s) → passing (count t) f q ≡ passing (count t) g q
+  alike f g e = ap (λ (h : ℕ → Bool). passing (count t) h q) (λ d s. e s d)
 
-  pub holding-none : (m : ℕ) → m ≡ passing t (sameTerm t i) q → Holding 0 m
+  pub holding-none : (m : ℕ) → m ≡ passing (count t) (sameTerm t i) q → Holding 0 m
   unfolding holdsMarked
   holding-none m e = record { are = e ∙ alike (sameTerm t i) (holdsTo 0) (λ s. sym (and-true (sameTerm t i s))) }
 
@@ -113,9 +112,9 @@ module _ (t : Table) (i q : ℕ) where
       once true b c = and-comm b c
       once false b c = refl
 
-      go : (b : Bool) → eqb (mark t (k + 1)) (server t i .term) ≡ b → cond b (passing t (supportsAt t i (k + 1)) m) m ≡ passing t (holdsTo (k + 1)) q
+      go : (b : Bool) → eqb (mark t (k + 1)) (server t i .term) ≡ b → cond b (passing (count t) (supportsAt t i (k + 1)) m) m ≡ passing (count t) (holdsTo (k + 1)) q
       go true f =
-          ap (passing t (supportsAt t i (k + 1))) (h .are) ∙ and-both (count t) q (holdsTo k) (supportsAt t i (k + 1))
+          ap (passing (count t) (supportsAt t i (k + 1))) (h .are) ∙ and-both (count t) q (holdsTo k) (supportsAt t i (k + 1))
           ∙ alike (λ s. holdsTo k s && supportsAt t i (k + 1) s) (holdsTo (k + 1))
           (λ s. once (sameTerm t i s) (before s) (here s) ∙ sym (more true f s))
       go false f = h .are ∙ alike (holdsTo k) (holdsTo (k + 1)) (λ s. sym (more false f s))
@@ -129,5 +128,5 @@ module _ (t : Table) (i q : ℕ) where
   pub holding-eight : (k m r : ℕ) → Holding (8 * k) m → r ≡ narrowedPast (8 * k) 8 t i m → Holding (8 * (k + 1)) r
   holding-eight k m r h e = let next : 8 * (k + 1) ≡ 8 * k + 8 = omega arith in rw (next, e) (holding-more 8 (8 * k) m h)
 
-  pub holding-all : (k m : ℕ) → k ≤ 8 → 8 ≤ k → Holding (8 * k) m → m ≡ passing t (holdsCommitted t i) q
+  pub holding-all : (k m : ℕ) → k ≤ 8 → 8 ≤ k → Holding (8 * k) m → m ≡ passing (count t) (holdsCommitted t i) q
   holding-all k m l h o = let all : 8 * k ≡ 64 = omega arith in rw all at (o .are)

@@ -2,9 +2,9 @@
 use Prim.Native.Nat.{ℕ, zero, suc, _+_}
 use mathlib.Core.Bool.{Bool, false, cond, _||_}
 use lib.Dec.{eqb}
-use Rattle.algorithm.specs.Table.{Table, server, mark}
-use Rattle.comparisons.specs.Support.{supportsAt}
-use Rattle.questions.specs.Questions.{passing}
+use Rattle.members.specs.Members.{passing}
+use Rattle.algorithm.specs.Table.{Table, count, server, mark}
+use Rattle.algorithm.specs.Actions.{supportsAt}
 
 -- one of the positions o + 1 to o + k is marked with the term T
 unfoldable pub markedPast : ℕ → ℕ → Table → ℕ → Bool
@@ -13,7 +13,7 @@ markedPast o (suc k) t T = eqb (mark t (o + suc k)) T || markedPast o k t T
 
 -- those of q that support i at the position p, if that is marked with i's term
 abbrev pub narrowedAt : Table → ℕ → ℕ → ℕ → ℕ
-narrowedAt t i p q = cond (eqb (mark t p) (server t i .term)) (passing t (supportsAt t i p) q) q
+narrowedAt t i p q = cond (eqb (mark t p) (server t i .term)) (passing (count t) (supportsAt t i p) q) q
 
 -- the same at each of the positions o + 1 to o + k
 unfoldable pub narrowedPast : ℕ → ℕ → Table → ℕ → ℕ → ℕ

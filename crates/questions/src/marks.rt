@@ -2,11 +2,11 @@
 // eight positions without such a mark are passed over at once: few positions carry one term.
 ghost use mathlib.Core.Path.{_≡_};
 ghost use Prim.Native.Nat.{_+_, _≤_};
-ghost use Rattle.algorithm.specs.Table.{server};
+ghost use Rattle.members.specs.Members.{passing};
+ghost use Rattle.algorithm.specs.Table.{count, server};
 ghost use Rattle.algorithm.specs.Actions.{sameTerm, holdsCommitted};
 ghost use Rattle.table.specs.Layout.{tableIn};
 ghost use Rattle.table.specs.Slice.{Held, Within};
-ghost use Rattle.questions.specs.Questions.{passing};
 ghost use Rattle.questions.specs.Marks.{markedPast, narrowedAt, narrowedPast};
 use crate::shares::supporters;
 use algorithm::Position;
@@ -66,8 +66,8 @@ fn narrowed(t: &[u8], i: usize, q: u16, from: u8) -> u16
 pub fn holding(t: &[u8], i: usize, same: u16) -> u16
     requires { ⌜ Held (now t) ⌝ }
     requires { ⌜ Within (now t) i ⌝ }
-    requires { ⌜ same ≡ passing (tableIn (now t)) (sameTerm (tableIn (now t)) i) (server (tableIn (now t)) i .config .set) ⌝ }
-    ensures { λ r. ⌜ r ≡ passing (tableIn (now (t .entry))) (holdsCommitted (tableIn (now (t .entry))) i) (server (tableIn (now (t .entry))) i .config .set) ⌝ }
+    requires { ⌜ same ≡ passing (count (tableIn (now t))) (sameTerm (tableIn (now t)) i) (server (tableIn (now t)) i .config .set) ⌝ }
+    ensures { λ r. ⌜ r ≡ passing (count (tableIn (now (t .entry)))) (holdsCommitted (tableIn (now (t .entry))) i) (server (tableIn (now (t .entry))) i .config .set) ⌝ }
 {
     let mut m = same;
     let mut k: u8 = 0;

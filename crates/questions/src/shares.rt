@@ -2,11 +2,12 @@
 ghost use mathlib.Core.Path.{_≡_};
 ghost use mathlib.Core.Bool.{_&&_};
 ghost use Prim.Native.Nat.{_+_, _≤_, _<_, _^_};
-ghost use Rattle.members.specs.Members.{bit};
+ghost use Rattle.members.specs.Members.{bit, passing};
+ghost use Rattle.algorithm.specs.Table.{count};
+ghost use Rattle.algorithm.specs.Actions.{supportsAt};
 ghost use Rattle.table.specs.Layout.{tableIn};
 ghost use Rattle.table.specs.Slice.{Held, Within};
-ghost use Rattle.comparisons.specs.Support.{supportsAt};
-ghost use Rattle.questions.specs.Questions.{passing, Shared};
+ghost use Rattle.questions.specs.Questions.{Shared};
 ghost use Rattle.questions.specs.Turns.{Compared};
 use algorithm::Position;
 use comparisons::same_config;
@@ -71,7 +72,7 @@ pub fn supporters(t: &[u8], i: usize, q: u16, p: Position) -> u16
     requires { ⌜ Held (now t) ⌝ }
     requires { ⌜ Within (now t) i ⌝ }
     requires { ⌜ p .0 ≤ 64 ⌝ }
-    ensures { λ r. ⌜ r ≡ passing (tableIn (now (t .entry))) (supportsAt (tableIn (now (t .entry))) i (p .0)) q ⌝ }
+    ensures { λ r. ⌜ r ≡ passing (count (tableIn (now (t .entry)))) (supportsAt (tableIn (now (t .entry))) i (p .0)) q ⌝ }
 {
     let n = count_of(t) as usize;
     let mut m: u16 = 0;

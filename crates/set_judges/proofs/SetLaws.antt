@@ -7,13 +7,11 @@ use mathlib.Core.List.{[], _∷_}
 use lib.Dec.{eqb, ltb}
 use lib.ListN.{length}
 use lib.Bits.{bitAnd}
-use Rattle.members.specs.Members.{majority, oneApart, allPass}
+use Rattle.members.specs.Members.{oneApart, majority, passing, allPass}
 use Rattle.algorithm.specs.Table.{Log, Table, count, server, mark}
 use Rattle.algorithm.specs.Comparisons.{last}
-use Rattle.algorithm.specs.Actions.{holdsLast}
+use Rattle.algorithm.specs.Actions.{supportsAt}
 use Rattle.form.proofs.RefusalLaws.{judging}
-use Rattle.comparisons.specs.Support.{supportsAt}
-use Rattle.questions.specs.Questions.{passing}
 
 -- some member of q passes
 pub some-told : (x q k : ℕ) → x ≡ bitAnd q k → ltb 0 x ≡ ltb 0 (bitAnd q k)
@@ -24,7 +22,7 @@ pub most-told : (x m s k : ℕ) → x ≡ bitAnd m k → m ≡ s → (r : Bool) 
 most-told x m s k e f r g = rw (← f, ← e) g
 
 -- every member of q holds the last entry of server i: they are its supporters there
-pub all-told : (t : Table) (i q p x : ℕ) → x ≡ passing t (supportsAt t i p) q → p ≡ length (server t i .log) → eqb x q ≡ allPass (count t) (holdsLast t i) q
+pub all-told : (t : Table) (i q p x : ℕ) → x ≡ passing (count t) (supportsAt t i p) q → p ≡ length (server t i .log) → eqb x q ≡ allPass (count t) (supportsAt t i (length (server t i .log))) q
 all-told t i q p x e f = rw (e, f)
 
 -- where refusal 22 does not hold, the log has an entry

@@ -3,14 +3,13 @@ ghost use mathlib.Core.Path.{_≡_};
 ghost use mathlib.Core.Bool.{false};
 ghost use lib.Dec.{eqb};
 ghost use lib.ListN.{drop};
-ghost use Rattle.members.specs.Members.{majority, oneApart};
-ghost use Rattle.algorithm.specs.Table.{server, ceiling};
+ghost use Rattle.members.specs.Members.{oneApart, majority, passing};
+ghost use Rattle.algorithm.specs.Table.{count, server, ceiling};
 ghost use Rattle.algorithm.specs.Actions.{electRefusals, sameTerm, p1, reconfigureRefusals, commitRefusals};
 ghost use Rattle.algorithm.specs.Refusals.{first};
 ghost use Rattle.table.specs.Layout.{tableIn};
 ghost use Rattle.table.specs.Slice.{Held, Within};
 ghost use Rattle.form.specs.Refused.{holdsIn};
-ghost use Rattle.questions.specs.Questions.{passing};
 use algorithm::CEILING;
 use algorithm::POSITIONS;
 use comparisons::PRIMARY;
@@ -93,7 +92,7 @@ pub fn judge_elect(t: &[u8], i: usize, q: u16) -> u8
 fn is_safe(t: &[u8], i: usize, same: u16) -> bool
     requires { ⌜ Held (now t) ⌝ }
     requires { ⌜ Within (now t) i ⌝ }
-    requires { ⌜ same ≡ passing (tableIn (now t)) (sameTerm (tableIn (now t)) i) (server (tableIn (now t)) i .config .set) ⌝ }
+    requires { ⌜ same ≡ passing (count (tableIn (now t))) (sameTerm (tableIn (now t)) i) (server (tableIn (now t)) i .config .set) ⌝ }
     ensures { λ r. ⌜ r ≡ p1 (tableIn (now (t .entry))) i ⌝ }
 {
     if is_marked(t, i, 0, POSITIONS) {

@@ -7,16 +7,15 @@ use mathlib.Core.Path.{_≡_, refl, ap, sym, _∙_}
 use mathlib.Core.List.{List, [], _∷_, _++_}
 use lib.ListN.{length, getD, set, take, length-append, length-take, List·getD-map}
 use lib.Seq.{length-take-le}
-use Rattle.algorithm.specs.Table.{Entry, Log, Server, Table, nth, replace, count, server, termAt, mark}
+use Rattle.algorithm.specs.Table.{nth, replace, Entry, Log, Server, Table, count, server, termAt, mark, changed, withMark, withRole, withTerm, withConfig, withEntry, withoutLast}
 use Rattle.algorithm.specs.Comparisons.{last}
-use Rattle.algorithm.specs.Actions.{withConfig}
 use Rattle.algorithm.proofs.Lists.{length-replace}
-use Rattle.table.specs.declared.rows.Row.{Row}
 use Rattle.words.specs.Words.{words, Put}
 use Rattle.table.specs.Layout.{padded, terms, row, head, layout, tableIn}
-use Rattle.table.specs.Slice.{Holds, Held, Became, Within, changed, withRole, withTerm, withEntry, withoutLast, withMark, seen}
+use Rattle.table.specs.Slice.{Holds, Held, Became, Within, seen}
+use Rattle.table.specs.declared.rows.Row.{Row}
 use Rattle.table.proofs.LayoutLaws.{marks-in}
-use Rattle.table.proofs.HeldLaws.{its-table, held, its-room, Open, then, frame, open-row, close-row, read, opened, closed}
+use Rattle.table.proofs.HeldLaws.{its-table, held, its-room, Open, opened, read, then, closed, frame, open-row, close-row}
 
 -- ---- the number of servers
 

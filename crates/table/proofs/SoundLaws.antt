@@ -10,8 +10,7 @@ use lib.ListN.{length, replicate}
 use lib.Pow.{pow-mono}
 use Rattle.members.specs.Members.{within}
 use Rattle.members.proofs.Tests.{Passes, both, less}
-use Rattle.algorithm.specs.Table.{Log, Server, Table, every, count, primary, secondary, ceiling, soundConfig, soundEntry, soundServer}
-use Rattle.algorithm.specs.Actions.{withLog}
+use Rattle.algorithm.specs.Table.{every, Log, Server, Table, count, primary, secondary, withLog, ceiling, soundConfig, soundEntry, soundServer}
 use Rattle.algorithm.proofs.Lists.{every-cons}
 use Rattle.algorithm.proofs.Sound.{SoundServer, SoundTable, server-sound}
 use Rattle.words.specs.Words.{between}

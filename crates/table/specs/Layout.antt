@@ -5,7 +5,7 @@ use mathlib.Core.Bool.{Bool, true, false, not, _&&_}
 use mathlib.Core.List.{List, [], _∷_, _++_, map}
 use lib.Dec.{eqb}
 use lib.ListN.{length, getD, take, drop, replicate}
-use Rattle.algorithm.specs.Table.{Entry, Log, Server, Table, count, broken}
+use Rattle.algorithm.specs.Table.{Entry, Log, entries, Server, Table, count, broken}
 use Rattle.words.specs.Words.{words, bytes}
 
 -- ---- from a table to bytes
@@ -44,10 +44,6 @@ unfoldable pub stored : Table → List ℕ
 stored t = bytes (layout t)
 
 -- ---- from bytes to a table
-
--- numbers as a log
-abbrev pub entries : List ℕ → Log
-entries l = map (λ v. record { term = v }) l
 
 -- the server whose row the words begin with
 unfoldable pub serverOf : List ℕ → Server

@@ -1,14 +1,13 @@
 -- What the functions ask and promise of a slice that holds a table. Assumes nothing.
-use Prim.Native.Nat.{ℕ, _-_, _≤_, _<_}
+use Prim.Native.Nat.{ℕ, _≤_, _<_}
 use mathlib.Core.Path.{_≡_}
-use mathlib.Core.List.{List, [], _∷_, _++_}
-use lib.ListN.{length, take, replicate}
-use Rattle.algorithm.specs.Table.{Server, Table, absent, positions, replace, count, server}
-use Rattle.algorithm.specs.Actions.{withServer, withLog}
+use mathlib.Core.List.{List, [], _∷_}
+use lib.ListN.{length, replicate}
+use Rattle.algorithm.specs.Table.{Server, Table, count, absent, positions}
 use Rattle.algorithm.specs.Comparisons.{last}
-use Rattle.table.specs.declared.rows.Row.{Row}
 use Rattle.words.specs.Words.{words}
 use Rattle.table.specs.Layout.{layout, tableIn}
+use Rattle.table.specs.declared.rows.Row.{Row}
 
 -- a log of n entries and the set m have room in a row
 pub record Room (n m : ℕ) : Type 0 where
@@ -50,30 +49,6 @@ pub record Became (b b' : List ℕ) (t : Table) : Type 0 where
 pub record Within (b : List ℕ) (s : ℕ) : Type 0 where
   pub some : 1 ≤ s
   pub known : s ≤ count (tableIn b)
-
--- the table with server i changed
-abbrev pub changed : Table → ℕ → (Server → Server) → Table
-changed t i f = withServer t i (f (server t i))
-
--- a server with another role
-abbrev pub withRole : ℕ → Server → Server
-withRole v s = record { role = v; term = s .term; config = s .config; log = s .log }
-
--- a server with another term
-abbrev pub withTerm : ℕ → Server → Server
-withTerm v s = record { role = s .role; term = v; config = s .config; log = s .log }
-
--- a server with an entry of term v more
-abbrev pub withEntry : ℕ → Server → Server
-withEntry v s = withLog (s .log ++ (record { term = v } ∷ [])) s
-
--- a server without its last entry
-abbrev pub withoutLast : Server → Server
-withoutLast s = withLog (take (length (s .log) - 1) (s .log)) s
-
--- the table with another mark at a position
-abbrev pub withMark : Table → ℕ → ℕ → Table
-withMark t p v = record { servers = t .servers; marks = replace (t .marks) p v }
 
 -- n servers of which nothing is known yet, and no marks
 abbrev pub blank : ℕ → Table

@@ -2,11 +2,10 @@
 ghost use mathlib.Core.Path.{_≡_};
 ghost use Prim.Native.Nat.{_≤_, _<_};
 ghost use lib.ListN.{length, getD};
-ghost use Rattle.algorithm.specs.Table.{count, server, termAt, mark};
+ghost use Rattle.algorithm.specs.Table.{count, server, termAt, mark, changed, withMark, withRole, withTerm, withConfig, withEntry, withoutLast};
 ghost use Rattle.algorithm.specs.Comparisons.{last};
-ghost use Rattle.algorithm.specs.Actions.{withConfig};
 ghost use Rattle.table.specs.Layout.{row, tableIn};
-ghost use Rattle.table.specs.Slice.{Held, Became, Within, changed, withRole, withTerm, withEntry, withoutLast, withMark, seen};
+ghost use Rattle.table.specs.Slice.{Held, Became, Within, seen};
 use algorithm::Position;
 use algorithm::Term;
 use algorithm::Version;

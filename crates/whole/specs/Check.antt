@@ -4,8 +4,7 @@ use mathlib.Core.Bool.{Bool, true, _&&_}
 use mathlib.Core.List.{List, []}
 use lib.Dec.{leb}
 use lib.ListN.{getD, drop}
-use Rattle.algorithm.specs.Table.{every, soundServer, ceiling}
-use Rattle.algorithm.specs.Actions.{withLog}
+use Rattle.algorithm.specs.Table.{every, withLog, ceiling, soundServer}
 use Rattle.words.specs.Words.{part, between}
 use Rattle.table.specs.Layout.{serverOf}
 

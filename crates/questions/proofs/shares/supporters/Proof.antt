@@ -3,8 +3,8 @@ use Prim.Native.Nat.{_-_, _≤_}
 use mathlib.Core.Path.{_≡_}
 use borrow.Author.Needs.{needs}
 use Rattle.algorithm.specs.Table.{count}
+use Rattle.algorithm.specs.Actions.{supportsAt}
 use Rattle.table.specs.Layout.{tableIn}
-use Rattle.comparisons.specs.Support.{supportsAt}
 use Rattle.questions.proofs.ServerLaws.{Passed, pass-none, pass-fits, pass-next, pass-all}
 use Rattle.questions.proofs.shares.supporters.Statement.{statement}
 use Rattle.questions.proofs.shares.supporters.Tie as tie
