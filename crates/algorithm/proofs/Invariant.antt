@@ -67,9 +67,9 @@ pub record Inv (s : State) : Type 0 where
   pub same : {C D : Config} → Has s C → Has s D → C .term ≡ D .term → C .version ≡ D .version → C .set ≡ D .set
   -- the majorities of active configurations meet
   pub meet : {C D : Config} → Has s C → Has s D → Active s C → Active s D → MajoritiesMeet (C .set) (D .set)
-  -- every majority of an active configuration has heard of every configuration's term
+  -- every majority of an active configuration has a member that heard of a given configuration's term
   pub heard : {C D : Config} → Has s C → Active s C → Has s D → Hits (C .set) (λ n. D .term ≤ s n .term)
-  -- every majority of a primary's configuration has left its term, where there is a configuration of a larger one
+  -- where there is a configuration of a larger term, every majority of a primary's set has a member that left its own
   pub left : {i : ℕ} {C D : Config} → Leads s i C → Has s D → C .term < D .term → Hits (C .set) (λ n. C .term < s n .term)
 
 -- What is known of a new configuration C of server k, in the step from s to s′. `New` says which one it is.

@@ -32,7 +32,7 @@ pub record LogInv (c : State) (L : ℕ → Log) (M : Marks) : Type 0 where
   -- two logs with entries of one term agree up to the first of these
   pub agree : {m n p q t : ℕ} → Holds (L m) p t → Holds (L n) q t → q ≤ p → Same q (L m) (L n)
   pub sorted : {n p q t u : ℕ} → Holds (L n) p t → Holds (L n) q u → q ≤ p → u ≤ t
-  -- the terms of entries and marks are those of configurations
+  -- the terms of entries and marks are reached by some configuration's
   pub known : {n p t : ℕ} → Holds (L n) p t → Reaches c t
   pub marked : {p t : ℕ} → M p t → Reaches c t
   -- before an entry stand all that were committed in smaller terms

@@ -24,7 +24,7 @@ abbrev pub NoneHold : List Refusal → Type 0
 NoneHold [] = Unit {0}
 NoneHold (r ∷ rs) = Fails (r .holds) × NoneHold rs
 
--- where the number given stands in the second of two lists, nothing of the first holds
+-- if k is given, and no refusal of the first list has that number, none of them holds
 pub first-later : (k : ℕ) (rs later : List Refusal) → T (every (λ r. not (eqb (r .number) k)) rs) → first (rs ++ later) ≡ k
     → NoneHold rs × (first later ≡ k)
 unfolding first every
@@ -39,33 +39,33 @@ first-later k (r ∷ rs) later p e =
     go false here rest z = let (n, f) = rest z in ((record { no = tt }, n), f)
 
 -- each number is larger than the one before it, the first one larger than k
-unfoldable pub rising : ℕ → List Refusal → Bool
-rising k [] = true
-rising k (r ∷ rs) = ltb k (r .number) && rising (r .number) rs
+unfoldable pub ascending : ℕ → List Refusal → Bool
+ascending k [] = true
+ascending k (r ∷ rs) = ltb k (r .number) && ascending (r .number) rs
 
-own-rising : (t : Table) (a : Action) → T (rising 5 (ownRefusals t a))
-unfolding rising
-own-rising t unknown = tt
-own-rising t (elect i q) = tt
-own-rising t (reconfigure i m) = tt
-own-rising t (send i j) = tt
-own-rising t (spread i j) = tt
-own-rising t (write i) = tt
-own-rising t (fetch i j) = tt
-own-rising t (rollBack i j) = tt
-own-rising t (commit i q) = tt
+own-ascending : (t : Table) (a : Action) → T (ascending 5 (ownRefusals t a))
+unfolding ascending
+own-ascending t unknown = tt
+own-ascending t (elect i q) = tt
+own-ascending t (reconfigure i m) = tt
+own-ascending t (send i j) = tt
+own-ascending t (spread i j) = tt
+own-ascending t (write i) = tt
+own-ascending t (fetch i j) = tt
+own-ascending t (rollBack i j) = tt
+own-ascending t (commit i q) = tt
 
 -- the refusals of an action stand lowest first, so that the first that holds is the lowest
-pub lowest-first : (t : Table) (a : List ℕ) → T (rising 0 (refusals t a))
-unfolding rising refusals
-lowest-first t a = own-rising t (actionOf a)
+pub lowest-first : (t : Table) (a : List ℕ) → T (ascending 0 (refusals t a))
+unfolding ascending refusals
+lowest-first t a = own-ascending t (actionOf a)
 
 -- no refusal has the number 0
-numbered : (k : ℕ) (rs : List Refusal) → T (rising k rs) → T (every (λ r. not (eqb (r .number) 0)) rs)
-unfolding rising every
+numbered : (k : ℕ) (rs : List Refusal) → T (ascending k rs) → T (every (λ r. not (eqb (r .number) 0)) rs)
+unfolding ascending every
 numbered k [] h = tt
 numbered k (r ∷ rs) h =
-    let (here, rest) = and-yes (ltb k (r .number)) (rising (r .number) rs) h in
+    let (here, rest) = and-yes (ltb k (r .number)) (ascending (r .number) rs) h in
     yes-and (not (eqb (r .number) 0)) (every (λ r. not (eqb (r .number) 0)) rs)
     (not-T (eqb (r .number) 0) (λ z. omega (arith, ltb→lt k (r .number) here, eqb→eq (r .number) 0 z)))
     (numbered (r .number) rs rest)
@@ -115,7 +115,7 @@ pub taken : (t : Table) (a : List ℕ) → first (refusals t a) ≡ 0 → Taken 
 unfolding refusals every
 taken t a e =
     let (form, later) = first-later 0 (commonRefusals t a) (ownRefusals t (actionOf a)) tt e in
-    let (own, _) = first-later 0 (ownRefusals t (actionOf a)) [] (numbered 5 (ownRefusals t (actionOf a)) (own-rising t (actionOf a))) (rw append-nil later) in
+    let (own, _) = first-later 0 (ownRefusals t (actionOf a)) [] (numbered 5 (ownRefusals t (actionOf a)) (own-ascending t (actionOf a))) (rw append-nil later) in
     let (sound, fit) = common-fit t a form in
     record { sound = sound; fit = fit; own = own }
 
@@ -126,7 +126,7 @@ pub record Done (t : Table) (a : List ℕ) : Type 0 where
   pub table : step t a .table ≡ after t (actionOf a)
   pub won : wonBy t a ≡ wins t (actionOf a)
 
--- a step that is not gives the same table
+-- a step that is not taken leaves the table
 pub record Rested (t : Table) (a : List ℕ) : Type 0 where
   pub table : step t a .table ≡ t
   pub won : wonBy t a ≡ []

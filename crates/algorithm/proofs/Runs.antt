@@ -31,7 +31,7 @@ run-sound t p = play-keeps (λ t. Fails (broken t)) step-sound t (pieces (pieceC
 
 -- ---- one plan after another
 
--- the second run goes on where the first ended
+-- two runs as one: the replies of both, the second's table
 abbrev pub joined : Ran → Ran → Ran
 joined r s = record { replies = r .replies ++ s .replies; table = s .table }
 
@@ -50,7 +50,7 @@ pieces-append (suc k) j (suc n) p q e z =
     rw (take-append-le 8 p q (omega arith), drop-append-le 8 p q (omega arith))
     (ap (λ l. take 8 p ∷ l) (pieces-append k j n (drop 8 p) q (omega (arith, length-drop 8 p)) (omega arith)))
 
--- the run of a plan of whole actions and then another is the run of the second from the table of the first
+-- a plan of k whole actions and then another: the second runs from the table of the first
 pub run-append : (t : Table) (k : ℕ) (p q : List ℕ) → length p ≡ 8 * k → run t (p ++ q) ≡ joined (run t p) (run (run t p .table) q)
 run-append t k p q e =
     let c : pieceCount p ≡ k = omega arith in
@@ -66,7 +66,7 @@ pieces-next (suc k) p =
     let e : drop (8 * suc k) p ≡ drop (8 * k) (drop 8 p) = ap (λ (n : ℕ). drop n p) n ∙ sym (drop-drop (8 * k) 8 p) in
     rw e (ap (λ l. take 8 p ∷ l) (pieces-next k (drop 8 p)))
 
--- what a step adds to a run
+-- the run r, and one step more
 abbrev pub stepped : Ran → List ℕ → Ran
 stepped r a = joined r (record { replies = step (r .table) a .number ∷ []; table = step (r .table) a .table })
 

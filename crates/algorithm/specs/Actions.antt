@@ -9,7 +9,7 @@ use Rattle.members.specs.Members.{member, oneApart, majority, allPass, somePass
 use Rattle.algorithm.specs.Table.{Config, Log, Server, Table, count, server, primary, secondary, termAt, mark, withServer, changed, withMark, withConfig, withEntry, withoutLast, ceiling, positions}
 use Rattle.algorithm.specs.Comparisons.{newer, last, ahead, held, prefix}
 
--- ---- the bytes: kind, i, j, 0, set (low byte first), 0, 0
+-- ---- the bytes by their places: 0 the kind, 1 and 2 servers i and j, 4 and 5 the set; 3, 6 and 7 are 0
 
 -- byte k, from 0; a byte that is missing is 0
 abbrev pub byte : List ℕ → ℕ → ℕ
@@ -132,7 +132,7 @@ sameConfig t i s =
 abbrev pub sameTerm : Table → ℕ → ℕ → Bool
 sameTerm t i s = eqb (server t s .term) (server t i .term)
 
--- some of the positions 1 to k is marked with the term T, which is at least 1 for a primary
+-- one of the positions 1 to k is marked with the term T (never 0 here: a primary's is asked for)
 unfoldable pub someMarked : ℕ → Table → ℕ → Bool
 someMarked zero t T = false
 someMarked (suc k) t T = eqb (mark t (suc k)) T || someMarked k t T
@@ -146,11 +146,11 @@ holdsMarked (suc k) t T l = (not (eqb (mark t (suc k)) T) || held l (suc k) T) &
 abbrev pub holdsCommitted : Table → ℕ → ℕ → Bool
 holdsCommitted t i s = sameTerm t i s && holdsMarked positions t (server t i .term) (server t s .log)
 
--- Q1: a majority of i's set has i's version and configuration term
+-- Q1: those of i's set that share its version and configuration term are a majority of it
 abbrev pub q1 : Table → ℕ → Bool
 q1 t i = mostPass (count t) (sameConfig t i) (server t i .config .set)
 
--- Q2: a majority of i's set has i's term
+-- Q2: so are those that share its term
 abbrev pub q2 : Table → ℕ → Bool
 q2 t i = mostPass (count t) (sameTerm t i) (server t i .config .set)
 
@@ -171,7 +171,7 @@ reconfigureRefusals t i M =
     ∷ refuse 16 (not (p1 t i))
     ∷ []
 
--- the configuration with the set M and the next version; its configuration term stays
+-- the configuration with the set M and the next version; its term is C's
 abbrev pub nextConfig : ℕ → Config → Config
 nextConfig M C = record { set = M; version = C .version + 1; term = C .term }
 
@@ -231,7 +231,7 @@ fetchRefusals t i j =
     ∷ refuse 20 (not (ltb (length (a .log)) (length (b .log))) || not (joins (a .log) (b .log)))
     ∷ []
 
--- i's log has gained j's next entry
+-- j's entry behind i's length stands at the end of i's log
 abbrev pub fetchAfter : Table → ℕ → ℕ → Table
 fetchAfter t i j = changed t i (withEntry (termAt (server t j .log) (length (server t i .log) + 1)))
 

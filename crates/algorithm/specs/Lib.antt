@@ -1,5 +1,5 @@
 -- Document 01's algorithm. In the order to read: a reply's number, the table, comparisons, the eight actions, refusals, runs, the worked
--- cases; then the algorithm without logs, and the words of demand 3. `unfoldable` and `abbrev` say how proofs see a definition, not what it says.
+-- cases; then the algorithm without logs, and the words of demand 3.
 pub mod Reply
 pub mod Table
 pub mod Comparisons

@@ -83,6 +83,6 @@ pub data Moves : State → State → List ℕ → Type 0 where
   none : {s : State} → Moves s s []
   then : {s s′ s″ : State} {ts us : List ℕ} → Move s s′ ts → Moves s′ s″ us → Moves s s″ (ts ++ us)
 
--- every server that is there is fresh, with the set M
+-- every number has a fresh server with the set M, or none
 abbrev pub Fresh : ℕ → State → Type 0
 Fresh M s = (n : ℕ) → (s n ≡ freshServer M) ⊎ (s n ≡ absent)

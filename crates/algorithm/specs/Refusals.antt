@@ -50,7 +50,7 @@ ownRefusals t (commit i Q) = commitRefusals t i Q
 unfoldable pub refusals : Table → List ℕ → List Refusal
 refusals t bs = commonRefusals t bs ++ ownRefusals t (actionOf bs)
 
--- the number of the first refusal that holds, so of the lowest; 0 where none does
+-- the number of the first refusal that holds; 0 where none does
 unfoldable pub first : List Refusal → ℕ
 first [] = 0
 first (r ∷ rs) = cond (r .holds) (r .number) (first rs)

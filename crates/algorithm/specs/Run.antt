@@ -25,13 +25,13 @@ pub record Outcome : Type 0 where
   pub number : ℕ
   pub table : Table
 
--- the action that the bytes name: taken if no refusal holds; otherwise its number is the lowest that does, and the table stays
+-- the action that the bytes name is taken if no refusal holds; otherwise the reply is the first that does, and the table stays
 unfoldable pub step : Table → List ℕ → Outcome
 step t bs =
     let k = first (refusals t bs) in
     record { number = k; table = cond (eqb k 0) (after t (actionOf bs)) t }
 
--- the first k pieces of 8 bytes; a piece that the end cuts is shorter, and beyond the end pieces are empty: these are refused 2
+-- the first k pieces of 8 bytes; one that the end cuts is shorter, and beyond the end they are empty: neither is ever taken
 unfoldable pub pieces : ℕ → List ℕ → List (List ℕ)
 pieces zero p = []
 pieces (suc k) p = take 8 p ∷ pieces k (drop 8 p)
@@ -45,7 +45,7 @@ pub record Ran : Type 0 where
   pub replies : List ℕ
   pub table : Table
 
--- actions one after another; a refused one leaves the table
+-- actions one after another, each on the table that the one before left
 unfoldable pub play : Table → List (List ℕ) → Ran
 play t [] = record { replies = []; table = t }
 play t (bs ∷ rest) =

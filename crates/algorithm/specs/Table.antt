@@ -136,7 +136,7 @@ ceiling = 1000000000
 abbrev pub positions : ℕ
 positions = 64
 
--- a configuration: a non-empty set within the n servers, a version 1 to the ceiling, a configuration term up to it
+-- a configuration: its set has some of n servers and no other, its version is from 1, and both its counters are up to the ceiling
 abbrev pub soundConfig : ℕ → Config → Bool
 soundConfig n c = within (c .set) n && leb 1 (c .version) && leb (c .version) ceiling && leb (c .term) ceiling
 
@@ -144,7 +144,7 @@ soundConfig n c = within (c .set) n && leb 1 (c .version) && leb (c .version) ce
 abbrev pub soundEntry : Entry → Bool
 soundEntry e = leb 1 (e .term) && leb (e .term) ceiling
 
--- a server: a primary of a term that is at least 1, or a secondary; a term up to the ceiling, a configuration, a log of 0 to 64 entries
+-- a server: secondary, or primary of a term from 1; its term up to the ceiling; its configuration, and each of at most 64 entries, as above
 abbrev pub soundServer : ℕ → Server → Bool
 soundServer n s =
     (primary s && leb 1 (s .term) || secondary s)
@@ -157,13 +157,13 @@ soundServer n s =
 abbrev pub soundMarks : List ℕ → Bool
 soundMarks ms = eqb (length ms) positions && every (λ m. leb m ceiling) ms
 
--- the table breaks a rule: it has 1 to 16 servers, and they and the marks are as above, or it is broken
+-- a rule is broken: not 1 to 16 servers, or one of them or the marks not as above
 unfoldable pub broken : Table → Bool
 broken t = not (leb 1 (count t) && leb (count t) 16 && every (soundServer (count t)) (t .servers) && soundMarks (t .marks))
 
 -- ---- a fresh table
 
--- secondary, term 0, the set M, version 1, configuration term 0, an empty log
+-- a server before any action, with the set M
 abbrev pub freshServer : ℕ → Server
 freshServer M = record { role = 0; term = 0; config = record { set = M; version = 1; term = 0 }; log = [] }
 

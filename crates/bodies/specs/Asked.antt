@@ -6,19 +6,19 @@ use Rattle.algorithm.specs.Table.{Server}
 use Rattle.contents.specs.Contents.{countIn, size, stop, firstBody, fixed}
 use Rattle.bodies.specs.declared.Figures.{Figures}
 
--- entry e is there, and names a part of the input that has a length of its body
+-- entry e is in the input, and names a part of it that is long enough for its body and not too long
 pub record Names (im : List ℕ) (e : ℕ) : Type 0 where
   pub there : 12 + 4 * e ≤ length im
   pub within : stop im e ≤ length im
   pub least : fixed e ≤ size im e
   pub most : size im e ≤ fixed e + 256
 
--- so does every entry
+-- the contents are in the input, and every entry is so
 pub record Named (im : List ℕ) : Type 0 where
   pub complete : firstBody (countIn im) ≤ length im
   pub each : (e : ℕ) → e ≤ countIn im → Names im e
 
--- the part has a length of a server's body
+-- the part has 16 to 272 bytes
 pub record Sized (b : List ℕ) : Type 0 where
   pub least : 16 ≤ length b
   pub most : length b ≤ 272

@@ -1,2 +1,1 @@
--- The bodies that are written, and what is asked of the table.
 pub mod Written

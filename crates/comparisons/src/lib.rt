@@ -23,7 +23,7 @@ pub const SECONDARY: u32 = 0;
 
 pub const PRIMARY: u32 = 1;
 
-// Refusal 6: a role is not as the action says.
+// Server i has another role: refusal 6.
 pub fn lacks_role(t: &[u8], i: usize, role: u32) -> bool
     requires { ⌜ Held (now t) ⌝ }
     requires { ⌜ Within (now t) i ⌝ }

@@ -12,7 +12,7 @@ use Rattle.algorithm.specs.Table.{positions}
 abbrev pub halfAt : List ℕ → ℕ → ℕ
 halfAt b k = getD b k 0 + 256 * getD b (k + 1) 0
 
--- the letters SITE, and 0 in each byte of the first 8 that has no meaning
+-- the letters SITE, and 0 in bytes 5 to 7
 abbrev pub opened : List ℕ → Bool
 opened im =
     eqb (getD im 0 0) 83
@@ -41,7 +41,7 @@ offset im e = halfAt im (8 + 4 * e)
 abbrev pub size : List ℕ → ℕ → ℕ
 size im e = halfAt im (10 + 4 * e)
 
--- where body e ends: a sum that no width cuts
+-- where body e ends; nothing wraps
 abbrev pub stop : List ℕ → ℕ → ℕ
 stop im e = offset im e + size im e
 
@@ -59,7 +59,7 @@ abbrev pub fixed : ℕ → ℕ
 fixed zero = 0
 fixed (suc s) = 16
 
--- body e may be v bytes long: that, and four bytes for each of 0 to 64 entries or marks
+-- body e may be v bytes long: its fixed part, and four bytes for each of 0 to 64 entries or marks
 abbrev pub mayHave : ℕ → ℕ → Bool
 mayHave e v = leb (fixed e) v && leb v (fixed e + 4 * positions) && eqb (v % 4) 0
 

@@ -20,17 +20,17 @@ pub record Stepped (b a : List ℕ) (k : ℕ) (b' : List ℕ) : Type 0 where
   pub table : Holds b' (step (tableIn b) a .table)
   pub ready : Ready b'
 
--- as many pieces of the plan p are played as there are and as the replies r have room for
+-- how many pieces of the plan p are played: all, or as many as r has room for replies
 abbrev pub played : List ℕ → List ℕ → ℕ
 played p r = min (pieceCount p) (length r)
 
--- the plan p on the slice b: k pieces are played, and leave b', and r' of the replies r, of which the rest stays
+-- the plan p on the slice b: k pieces are played; b' is left, and r' is their replies with the rest of r behind
 pub record Played (b p r : List ℕ) (k : ℕ) (b' r' : List ℕ) : Type 0 where
   pub count : k ≡ played p r
   pub replies : r' ≡ runTo (played p r) (tableIn b) p .replies ++ drop (played p r) r
   pub table : Holds b' (runTo (played p r) (tableIn b) p .table)
 
--- as many are refused with 1, because the table is broken
+-- the plan p on a broken table: k pieces are answered 1
 pub record AllRefused (p r : List ℕ) (k : ℕ) (r' : List ℕ) : Type 0 where
   pub count : k ≡ played p r
   pub replies : r' ≡ replicate (played p r) 1 ++ drop (played p r) r

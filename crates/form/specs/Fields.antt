@@ -1,4 +1,4 @@
--- Refusals 3 to 5 by what a kind uses: server i, server j, the set m. Assumes nothing.
+-- Refusals 3 to 5 where the three zero bytes are 0, by what a kind uses: server i, server j, the set m. Assumes nothing.
 use Prim.Native.Nat.{ℕ}
 use mathlib.Core.Bool.{not, _||_}
 use mathlib.Core.List.{List, [], _∷_}

@@ -32,7 +32,7 @@ unfoldable pub serversTo : ℕ → List ℕ → List Server
 serversTo zero im = []
 serversTo (suc k) im = serversTo k im ++ (serverIn (body im (suc k)) ∷ [])
 
--- the table
+-- the table that is read, where nothing is refused
 abbrev pub readTable : List ℕ → Table
 readTable im = record { servers = serversTo (countIn im) im; marks = marksIn (body im 0) }
 

@@ -1,5 +1,6 @@
--- Demand 3 of the exported functions: whatever plan is run on a slice that was filled with a fresh table, it holds of the replies and of
--- the table in the slice at exit. Assumes nothing.
+-- Demand 3 of the exported functions: whatever plan is run on a slice that was filled with a fresh table, the table in the slice at exit and the
+-- replies are those of the algorithm's run, so that its primaries are complete and no reply is 24. Which terms are won is said of that run
+-- (`terms-rise`). Assumes nothing.
 use Prim.Native.Nat.{ℕ, _≤_, _<_}
 use mathlib.Core.Bool.{false}
 use mathlib.Core.List.{List, []}
@@ -12,11 +13,10 @@ use Rattle.members.proofs.Tests.{Fails, refuted, both, fails-false, false-fails
 use Rattle.algorithm.specs.Table.{every, server, primary, mark, broken, fresh}
 use Rattle.algorithm.specs.Comparisons.{held}
 use Rattle.algorithm.specs.Run.{pieces, runTo}
-use Rattle.algorithm.specs.Demand.{termsWon, Rising}
 use Rattle.algorithm.proofs.Refused.{first-later}
 use Rattle.algorithm.proofs.Kept.{fresh-sound, step-sound}
 use Rattle.algorithm.proofs.Runs.{play-keeps, replies-count}
-use Rattle.algorithm.proofs.Demands.{terms-rise, never-24, primaries-complete}
+use Rattle.algorithm.proofs.Demands.{never-24, primaries-complete}
 use Rattle.table.specs.Layout.{stored, tableIn}
 use Rattle.table.proofs.StoredLaws.{stored-table}
 use Rattle.whole.proofs.Determined.{stored-whole}
@@ -56,10 +56,6 @@ module _ (b : List ℕ) (n m : ℕ) (is-done : freshReply b n m ≡ 0) where
     exit-replies j h =
         rw (filled, stored-whole (fresh n m) sound, stored-table (fresh n m) sound)
         (List·getD-append (runTo k (fresh n m) p .replies) (drop k r) 0 j (omega (arith, replies-count k (fresh n m) p)))
-
-    -- the terms won rise, so that no term is won by two elections
-    pub no-term-twice : Rising 0 (termsWon k (fresh n m) p)
-    no-term-twice = terms-rise n m p k
 
     -- every primary holds, at its position, each entry marked with a term not above its own
     pub primaries-hold : (i q : ℕ) → T (primary (server (tableIn b') i)) → 0 < mark (tableIn b') q → mark (tableIn b') q ≤ server (tableIn b') i .term

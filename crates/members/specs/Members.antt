@@ -1,4 +1,6 @@
--- Sets of servers as numbers: server s is bit s - 1, and `ones m` is how many servers m has. Definitions alone. Assumes nothing.
+-- Sets of servers as numbers: server s is bit s - 1, and `ones m` is how many servers m has. Assumes nothing.
+-- (As in every file: `T b` says that the test b passes; `abbrev` and `unfoldable` say how proofs see a definition, not what it says; "assumes
+-- nothing" is: no axiom.)
 use mathlib.Core.Bool.{Bool, true, false, _&&_}
 use Prim.Native.Nat.{ℕ, zero, suc, _+_, _*_, _/_, _%_, _^_, _<_}
 use lib.Dec.{T, ltb, eqb}
@@ -34,7 +36,7 @@ oneApart a b = eqb (ones (bitXor a b)) 1
 abbrev pub Subset : ℕ → ℕ → Type 0
 Subset q m = (s : ℕ) → Member s q → Member s m
 
--- q is a subset of m with more than half of its members
+-- q lies in m and has more than half of its servers
 pub record Majority (q m : ℕ) : Type 0 where
   pub inside : Subset q m
   pub more : ones m < 2 * ones q

@@ -27,7 +27,7 @@ pub fn is_one_apart(a: u16, b: u16) -> bool
     u16::count_ones(a ^ b) == 1
 }
 
-// q is a subset of m with more than half of its members.
+// q lies in m and has more than half of its servers.
 pub fn is_majority(q: u16, m: u16) -> bool
     ensures { λ r. ⌜ r ≡ majority q m ⌝ }
 {

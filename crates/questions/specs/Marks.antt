@@ -1,4 +1,4 @@
--- Marks of a server's term at the positions past one, and the servers that hold what is marked there. Assumes nothing.
+-- Marks of a server's term at some positions in a row, and the servers that hold what is marked there. Assumes nothing.
 use Prim.Native.Nat.{ℕ, zero, suc, _+_}
 use mathlib.Core.Bool.{Bool, false, cond, _||_}
 use lib.Dec.{eqb}
@@ -11,7 +11,7 @@ unfoldable pub markedPast : ℕ → ℕ → Table → ℕ → Bool
 markedPast o zero t T = false
 markedPast o (suc k) t T = eqb (mark t (o + suc k)) T || markedPast o k t T
 
--- those of q that support i at the position p, if that is marked with i's term
+-- q; where position p is marked with i's term, only those of q that support i there
 abbrev pub narrowedAt : Table → ℕ → ℕ → ℕ → ℕ
 narrowedAt t i p q = cond (eqb (mark t p) (server t i .term)) (passing (count t) (supportsAt t i p) q) q
 

@@ -8,17 +8,17 @@ use Rattle.algorithm.specs.Actions.{largerTerm, newerConfig, logAhead, sameConf
 use Rattle.questions.specs.declared.votes.Objections.{Objections}
 use Rattle.questions.specs.declared.shares.Shares.{Shares}
 
--- the members that passed, once it has answered
+-- m, and server k + 1 if it is in q and passes f
 abbrev pub maskNext : (ℕ → Bool) → ℕ → ℕ → ℕ → ℕ
 maskNext f q k m = one (bit k q && f (k + 1)) * 2 ^ k + m
 
--- o has become r: of the objections to i's election
+-- r is o, and server k + 1 with what it has against i's election
 pub record Heard (t : Table) (i q k : ℕ) (o r : Objections) : Type 0 where
   pub larger : r .larger ≡ maskNext (largerTerm t i) q k (o .larger)
   pub newer : r .newer ≡ maskNext (newerConfig t i) q k (o .newer)
   pub ahead : r .ahead ≡ maskNext (logAhead t i) q k (o .ahead)
 
--- of those that share what i has
+-- r is o, and server k + 1 where it shares what i has
 pub record Compared (t : Table) (i q k : ℕ) (o r : Shares) : Type 0 where
   pub config : r .config ≡ maskNext (sameConfig t i) q k (o .config)
   pub term : r .term ≡ maskNext (sameTerm t i) q k (o .term)

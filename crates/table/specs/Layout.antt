@@ -60,7 +60,7 @@ unfoldable pub serversOf : ℕ → List ℕ → List Server
 serversOf zero d = []
 serversOf (suc k) d = serverOf d ∷ serversOf k (drop 70 d)
 
--- the table that some words are laid out as
+-- the table that these words lay out
 unfoldable pub tableOf : List ℕ → Table
 tableOf c = record { servers = serversOf (getD c 0 0) (drop 70 c); marks = take 64 (drop 6 c) }
 

@@ -9,7 +9,7 @@ use Rattle.words.specs.Words.{words}
 use Rattle.table.specs.Layout.{layout, tableIn}
 use Rattle.table.specs.declared.rows.Row.{Row}
 
--- a log of n entries and the set m have room in a row
+-- a log of n entries has room in a row, and the set m in 16 bits
 pub record Room (n m : ℕ) : Type 0 where
   pub short : n ≤ 64
   pub small : m < 65536
@@ -18,7 +18,7 @@ pub record Room (n m : ℕ) : Type 0 where
 abbrev pub Roomy : Server → Type 0
 Roomy s = Room (length (s .log)) (s .config .set)
 
--- each of the servers has
+-- all of them have
 abbrev pub AllRoomy : List Server → Type 0
 AllRoomy [] = Unit {0}
 AllRoomy (s ∷ ss) = Roomy s × AllRoomy ss
@@ -39,7 +39,7 @@ pub record Holds (b : List ℕ) (t : Table) : Type 0 where
 abbrev pub Held : List ℕ → Type 0
 Held b = Holds b (tableIn b)
 
--- the slice b has become b', which holds t; so it holds a table still, of as many servers
+-- the slice b has become b', which holds t, a table of as many servers
 pub record Became (b b' : List ℕ) (t : Table) : Type 0 where
   pub holds : Holds b' t
   pub held : Held b'

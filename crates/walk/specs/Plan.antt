@@ -1,4 +1,4 @@
--- What stands at a place of a list of actions, by the bytes that are left from there, with the place behind it. Assumes nothing.
+-- A place in a list of actions. Assumes nothing.
 use Prim.Native.Nat.{ℕ, _+_, _-_}
 use mathlib.Core.List.{List}
 use mathlib.Core.Bool.{cond}
@@ -7,5 +7,6 @@ use lib.Dec.{leb}
 use Rattle.walk.specs.declared.Found.{Found}
 use Rattle.walk.specs.declared.Found.the-variants.{Action, Cut, End}
 
+-- what stands there: 8 bytes and the place behind them, fewer and the end, or nothing
 unfoldable pub foundAt : List ℕ → ℕ → Found
 foundAt p at = cond (leb (length p) at) End (cond (leb 8 (length p - at)) (Action (at + 8)) (Cut (length p)))

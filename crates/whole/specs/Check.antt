@@ -17,12 +17,12 @@ soundRow n d =
     && every (between 1 ceiling) (part d 6 k)
     && every (between 0 0) (part d (6 + k) (64 - k))
 
--- so do the k rows that d begins with
+-- d begins with k such rows
 unfoldable pub soundRows : ℕ → ℕ → List ℕ → Bool
 soundRows zero n d = true
 soundRows (suc k) n d = soundRow n d && soundRows k n (drop 70 d)
 
--- the words of a table of n servers, from 1 to 16
+-- c is, but for word 0, the words of a table of n servers
 unfoldable pub soundWords : ℕ → List ℕ → Bool
 soundWords n c =
     every (between 0 0) (part c 1 5)

@@ -28,7 +28,7 @@ abbrev pub putWord : List ℕ → ℕ → ℕ → List ℕ
 putWord b k v =
     set (set (set (set b (4 * k) (v % 256)) (4 * k + 1) (v / 256 % 256)) (4 * k + 2) (v / 65536 % 256)) (4 * k + 3) (v / 16777216 % 256)
 
--- the slice b has become b': v is put into its word k, so that it is as long as before and its words are
+-- the slice b has become b': the four bytes of v stand in its word k; its length and its other words are as before
 pub record Put (b b' : List ℕ) (k v : ℕ) : Type 0 where
   pub bytes : b' ≡ putWord b k v
   pub sized : length b' ≡ length b
