@@ -1,0 +1,2 @@
+-- The laws of lines in order.
+pub mod OrderLaws
