@@ -4,7 +4,7 @@ use native.Mathlib.Omega.{arith}
 use lib.Seq.{length-take-le}
 use borrow.Author.Needs.{needs}
 use Rattle.engine.proofs.ReadyLaws.{played-held}
-use Rattle.rehearsal.proofs.OrderLaws.{played-shown}
+use Rattle.rehearsal.proofs.InputLaws.{played-shown}
 use Rattle.rehearsal.proofs.put_played.Statement.{statement}
 use Rattle.rehearsal.proofs.put_played.Tie as tie
 

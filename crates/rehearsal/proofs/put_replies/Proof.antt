@@ -7,7 +7,7 @@ use lib.ListN.{length, take}
 use Rattle.texts.specs.Buffer.{WroteShort}
 use Rattle.report.specs.Lines.{repliedLine}
 use Rattle.report.specs.Report.{repliedLines}
-use Rattle.rehearsal.proofs.OrderLaws.{first-line, replies-more, replies-all}
+use Rattle.rehearsal.proofs.OrderLaws.{numbered-none, replies-more, replies-all}
 use Rattle.rehearsal.proofs.put_replies.Statement.{statement}
 use Rattle.rehearsal.proofs.put_replies.Tie as tie
 
@@ -19,7 +19,7 @@ abbrev μ-loop : tie.MeasureT-loop
 μ-loop buffer₀ from replies n end₀ k₀ buffer end k = n - k
 
 loop-holds : tie.Need-loop-holds Inv-loop μ-loop
-loop-holds c = (search needs, search needs, first-line repliedLine _ _ (search needs))
+loop-holds c = (search needs, search needs, numbered-none repliedLine _ _ (search needs))
 
 cast-replied-line : tie.Need-cast-replied-line Inv-loop μ-loop
 cast-replied-line c = search needs

@@ -8,7 +8,7 @@ use Rattle.table.specs.Layout.{tableIn}
 use Rattle.texts.specs.Buffer.{WroteShort}
 use Rattle.report.specs.Lines.{rowLine}
 use Rattle.report.specs.Report.{rowLines}
-use Rattle.rehearsal.proofs.OrderLaws.{first-line, rows-more, rows-all}
+use Rattle.rehearsal.proofs.OrderLaws.{numbered-none, rows-more, rows-all}
 use Rattle.rehearsal.proofs.put_rows.Statement.{statement}
 use Rattle.rehearsal.proofs.put_rows.Tie as tie
 
@@ -23,7 +23,7 @@ count-of-requires : tie.Need-count-of-requires Inv-loop μ-loop
 count-of-requires c κs = search needs
 
 loop-holds : tie.Need-loop-holds Inv-loop μ-loop
-loop-holds c = (search needs, search needs, first-line rowLine _ _ (search needs))
+loop-holds c = (search needs, search needs, numbered-none rowLine _ _ (search needs))
 
 add-s : tie.Need-add-s Inv-loop μ-loop
 add-s c = search needs

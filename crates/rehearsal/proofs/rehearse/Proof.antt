@@ -2,7 +2,7 @@
 use borrow.Author.Needs.{needs}
 use Rattle.image.proofs.Theorems.{read-whole, read-within}
 use Rattle.engine.proofs.ReadyLaws.{whole-ready}
-use Rattle.rehearsal.proofs.OrderLaws.{too-long-shown, bad-site-shown, site-shown}
+use Rattle.rehearsal.proofs.InputLaws.{too-long-shown, bad-site-shown, site-shown}
 use Rattle.rehearsal.proofs.rehearse.Statement.{statement}
 use Rattle.rehearsal.proofs.rehearse.Tie as tie
 
