@@ -10,8 +10,8 @@ use Rattle.table.specs.declared.rows.Row.{Row}
 use Rattle.marks.proofs.MarkLaws.{trimmed-take}
 use Rattle.texts.specs.Texts.{text, decimal, field, fields}
 use Rattle.report.specs.Lines.{reply, repliedLine, cutLine, badSiteLine, tooLongLine, letter, figures, shownRow, marksLine}
-use Rattle.texts.specs.Buffer.{Wrote, WroteShort, Filled}
-use Rattle.texts.proofs.WroteLaws.{then, filled}
+use Rattle.texts.specs.Buffer.{Wrote, WroteShort}
+use Rattle.texts.proofs.WroteLaws.{then}
 
 -- ---- parts of a line
 
@@ -41,31 +41,34 @@ head b b₁ b₂ b₃ at c d e s r w n l =
 
 -- ---- lines
 
-pub too-long : (b b' : List ℕ) (e : ℕ) → Wrote b b' 0 (text "too long\n") e → Filled b b' tooLongLine e
-unfolding tooLongLine
-too-long b b' e w = filled w
+module _ (b b₁ : List ℕ) (at e : ℕ) where
+  pub too-long : Wrote b b₁ at (text "too long\n") e → WroteShort 9 b b₁ at tooLongLine e
+  unfolding tooLongLine
+  too-long w = record { wrote = w; short = omega (arith, w .end) }
 
-pub cut : (b b₁ b₂ : List ℕ) (d e k : ℕ) → WroteShort 10 b b₁ 0 (decimal k) d → Wrote b₁ b₂ d (text " cut\n") e → Filled b b₂ (cutLine k) e
-unfolding cutLine
-cut b b₁ b₂ d e k n w = filled (then (n .wrote) w)
+module _ (b b₁ b₂ : List ℕ) (at d e : ℕ) where
+  pub cut : (k : ℕ) → WroteShort 10 b b₁ at (decimal k) d → Wrote b₁ b₂ d (text " cut\n") e → WroteShort 15 b b₂ at (cutLine k) e
+  unfolding cutLine
+  cut k n w = record { wrote = then (n .wrote) w; short = omega (arith, n .short, w .end) }
 
-module _ (b b₁ b₂ b₃ : List ℕ) (c d e : ℕ) where
-  pub replied : (k r : ℕ) → WroteShort 10 b b₁ 0 (decimal k) c → WroteShort 19 b₁ b₂ c (reply r) d → Wrote b₂ b₃ d (text "\n") e
-      → Filled b b₃ (repliedLine k r) e
+module _ (b b₁ b₂ b₃ : List ℕ) (at c d e : ℕ) where
+  pub replied : (k r : ℕ) → WroteShort 10 b b₁ at (decimal k) c → WroteShort 19 b₁ b₂ c (reply r) d → Wrote b₂ b₃ d (text "\n") e
+      → WroteShort 30 b b₃ at (repliedLine k r) e
   unfolding repliedLine
-  replied k r n p w = filled (then (then (n .wrote) (p .wrote)) w)
+  replied k r n p w = record { wrote = then (then (n .wrote) (p .wrote)) w; short = omega (arith, n .short, p .short, w .end) }
 
-  pub bad-site : (r : ℕ) → Wrote b b₁ 0 (text "bad site") c → WroteShort 11 b₁ b₂ c (field r) d → Wrote b₂ b₃ d (text "\n") e
-      → Filled b b₃ (badSiteLine r) e
+  pub bad-site : (r : ℕ) → Wrote b b₁ at (text "bad site") c → WroteShort 11 b₁ b₂ c (field r) d → Wrote b₂ b₃ d (text "\n") e
+      → WroteShort 20 b b₃ at (badSiteLine r) e
   unfolding badSiteLine
-  bad-site r v n w = filled (then (then v (n .wrote)) w)
+  bad-site r v n w = record { wrote = then (then v (n .wrote)) w; short = omega (arith, v .end, n .short, w .end) }
 
-  pub row : (s : ℕ) (a : Row) → WroteShort 16 b b₁ 0 (text "row" ++ field s ++ letter (a .role)) c → WroteShort 66 b₁ b₂ c (fields (figures a)) d
-      → Wrote b₂ b₃ d (text "\n") e → Filled b b₃ (shownRow s a) e
+  pub row : (s : ℕ) (a : Row) → WroteShort 16 b b₁ at (text "row" ++ field s ++ letter (a .role)) c → WroteShort 66 b₁ b₂ c (fields (figures a)) d
+      → Wrote b₂ b₃ d (text "\n") e → WroteShort 83 b b₃ at (shownRow s a) e
   unfolding shownRow
-  row s a n f w = filled (then (then (n .wrote) (f .wrote)) w)
+  row s a n f w = record { wrote = then (then (n .wrote) (f .wrote)) w; short = omega (arith, n .short, f .short, w .end) }
 
-  pub marks-shown : (ms : List ℕ) (n : ℕ) → (n ≡ length (trimmed ms)) × (n ≤ 64) → Wrote b b₁ 0 (text "marks") c → WroteShort 704 b₁ b₂ c (fields (take n ms)) d
-      → Wrote b₂ b₃ d (text "\n") e → Filled b b₃ (marksLine ms) e
+  pub marks-shown : (ms : List ℕ) (n : ℕ) → (n ≡ length (trimmed ms)) × (n ≤ 64) → Wrote b b₁ at (text "marks") c
+      → WroteShort 704 b₁ b₂ c (fields (take n ms)) d → Wrote b₂ b₃ d (text "\n") e → WroteShort 710 b b₃ at (marksLine ms) e
   unfolding marksLine
-  marks-shown ms n (h, _) v f w = rw (sym (trimmed-take ms), ← h) (filled (then (then v (f .wrote)) w))
+  marks-shown ms n (h, _) v f w =
+      record { wrote = rw (sym (trimmed-take ms), ← h) (then (then v (f .wrote)) w); short = omega (arith, v .end, f .short, w .end) }

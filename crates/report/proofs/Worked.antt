@@ -8,8 +8,9 @@ use Rattle.algorithm.specs.Refusals.{refusals, first}
 use Rattle.algorithm.specs.Run.{after, step, pieces, play}
 use Rattle.texts.specs.Texts.{digits, decimal, field, fields}
 use Rattle.report.specs.Lines.{reply, repliedLine, letter, shownRow, marksLine}
-use Rattle.report.specs.Case.{repliedLines, rowLines, given, expected}
+use Rattle.report.specs.Report.{numbered, tableLines, cutLines, playedLines}
+use Rattle.report.specs.Case.{given, expected}
 
 pub case-holds : given ≡ expected
-unfolding given expected repliedLines rowLines digits decimal field fields reply repliedLine letter shownRow trimmed marksLine ones mask nth replace every broken votersFrom someMarked holdsMarked refusals first after step pieces play
+unfolding given expected playedLines cutLines tableLines numbered digits decimal field fields reply repliedLine letter shownRow trimmed marksLine ones mask nth replace every broken votersFrom someMarked holdsMarked refusals first after step pieces play
 case-holds = refl

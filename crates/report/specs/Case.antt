@@ -1,26 +1,11 @@
 -- The case that document 01 gives whole: what its run prints, and the lines that it must print. Assumes nothing.
-use Prim.Native.Nat.{ℕ, suc}
+use Prim.Native.Nat.{ℕ}
 use Prim.Native.String.{String}
 use mathlib.Core.List.{List, [], _∷_, _++_, map}
-use Rattle.algorithm.specs.Table.{Server, fresh}
-use Rattle.algorithm.specs.Run.{Ran, run}
+use Rattle.algorithm.specs.Table.{fresh}
 use Rattle.algorithm.specs.Cases.{bytes}
 use Rattle.texts.specs.Texts.{text}
-use Rattle.report.specs.Lines.{repliedLine, rowLine, marksLine}
-
--- the lines of actions, the first of which has the number k
-unfoldable pub repliedLines : ℕ → List ℕ → List (List ℕ)
-repliedLines k [] = []
-repliedLines k (r ∷ rest) = repliedLine k r ∷ repliedLines (suc k) rest
-
--- the lines of servers, the first of which has the number s
-unfoldable pub rowLines : ℕ → List Server → List (List ℕ)
-rowLines s [] = []
-rowLines s (a ∷ rest) = rowLine s a ∷ rowLines (suc s) rest
-
--- the lines of a run, none of whose actions is cut
-abbrev pub printed : Ran → List (List ℕ)
-printed r = repliedLines 1 (r .replies) ++ rowLines 1 (r .table .servers) ++ (marksLine (r .table .marks) ∷ [])
+use Rattle.report.specs.Report.{playedLines}
 
 -- elect 1 by 3; write 1; fetch 2 from 1; reconfigure 1 to 15; send 1 to 2; reconfigure 1 to 15; commit 1 by 3; reconfigure 1 to 15; elect
 -- 3 by 6
@@ -38,7 +23,7 @@ plan =
 
 -- what the case prints, by the definitions
 unfoldable pub given : List (List ℕ)
-given = printed (run (fresh 4 7) plan)
+given = playedLines (fresh 4 7) plan
 
 -- what it must print
 abbrev pub lines : List String

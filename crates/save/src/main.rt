@@ -5,15 +5,27 @@ use image::read;
 use libc::STDERR_FILENO;
 use libc::STDIN_FILENO;
 use libc::STDOUT_FILENO;
-use say::MOST;
-use say::PIECES;
-use say::say_bad_site;
-use say::say_too_long;
+use report::MOST;
+use report::PIECES;
+use report::bad_site_line;
+use report::too_long_line;
 use table::BYTES;
 use writer::write;
 
 // The longest image: 16 servers, each log and the marks full.
 const IMAGE: usize = 4684;
+
+fn tell_too_long() {
+    let mut line = [0u8; 9];
+    let n = too_long_line(&mut line, 0);
+    io::write_all(STDERR_FILENO, &line[..n]);
+}
+
+fn tell_bad_site(number: u32) {
+    let mut line = [0u8; 20];
+    let n = bad_site_line(&mut line, 0, number);
+    io::write_all(STDERR_FILENO, &line[..n]);
+}
 
 fn write_image(t: &[u8]) {
     let mut image = [0u8; IMAGE];
@@ -31,7 +43,7 @@ fn save(input: &[u8]) {
     let mut end: u64 = 0;
     let number = read(input, &mut t, &mut end);
     if number != 0 {
-        say_bad_site(STDERR_FILENO, number);
+        tell_bad_site(number);
         return;
     }
     let mut replies = [0u8; PIECES];
@@ -44,7 +56,7 @@ fn main() {
     let mut input = [0u8; MOST + 1];
     let n = io::read_full(STDIN_FILENO, &mut input);
     if MOST < n {
-        say_too_long(STDERR_FILENO);
+        tell_too_long();
         return;
     }
     save(&input[..n]);

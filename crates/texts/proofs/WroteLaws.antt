@@ -1,13 +1,12 @@
 -- Laws of writing at a place of a buffer: nothing, a byte, one thing behind another. Assumes nothing.
 use Prim.Native.Nat.{ℕ, _+_, _≤_, _<_}
-use native.Mathlib.Nat.{zero-add}
 use native.Mathlib.Numerals.{add-one}
 use native.Mathlib.Omega.{arith}
 use mathlib.Core.Path.{_≡_, ap, sym, _∙_}
 use mathlib.Core.List.{List, [], _∷_, _++_, append-assoc}
 use lib.ListN.{length, getD, take, drop, set, length-append, length-drop, take-append-drop}
 use lib.Seq.{length-take-le, take-all, take-at, take-suc, drop-drop, drop-append-add, set-split}
-use Rattle.texts.specs.Buffer.{Wrote, Filled}
+use Rattle.texts.specs.Buffer.{Wrote}
 
 -- ---- at one place
 
@@ -62,11 +61,11 @@ module _ (b b₁ w : List ℕ) (at i e : ℕ) where
   pub wrote-all : length w ≤ i → Wrote b b₁ at (take i w) e → Wrote b b₁ at w e
   wrote-all h u = rw (take-all i w h) at u
 
--- ---- a line
+-- ---- what a caller that lends `&buffer[..e]` is asked for
 
--- what is written at the start of the buffer fills it so far
-pub filled : {b b' l : List ℕ} {r : ℕ} → Wrote b b' 0 l r → Filled b b' l r
-filled {b} {b'} {l} {r} w =
-    let all : r ≡ length l = w .end ∙ zero-add (length l) in
-    let fits : r ≤ length b' = omega (arith, w .room, sized w) in
-    record { counted = all; bytes = w .bytes ∙ rw all; within = fits; lent = sym (length-take-le r b' fits) }
+module _ (b b' : List ℕ) (at : ℕ) (l : List ℕ) (e : ℕ) (w : Wrote b b' at l e) where
+  pub wrote-within : e ≤ length b'
+  wrote-within = omega (arith, w .room, sized w)
+
+  pub wrote-lent : e ≡ length (take e b')
+  wrote-lent = sym (length-take-le e b' wrote-within)

@@ -11,8 +11,8 @@ slice-aggregate-read c = search needs
 read-requires : tie.Need-read-requires
 read-requires c κs = search needs
 
-say-bad-site-requires : tie.Need-say-bad-site-requires
-say-bad-site-requires c κs = search needs
+tell-bad-site-requires : tie.Need-tell-bad-site-requires
+tell-bad-site-requires c κs = search needs
 
 returns : tie.Need-returns
 returns c = search needs
@@ -50,7 +50,7 @@ save-spec =
     (tie.spec
     slice-aggregate-read
     read-requires
-    say-bad-site-requires
+    tell-bad-site-requires
     returns
     slice-aggregate-run
     sub-run

@@ -1,0 +1,2 @@
+-- What `rehearse` prints of its whole input.
+pub mod Printed
