@@ -7,8 +7,7 @@ use Rattle.algorithm.specs.Cases.{bytes}
 use Rattle.texts.specs.Texts.{text}
 use Rattle.report.specs.Report.{playedLines}
 
--- elect 1 by 3; write 1; fetch 2 from 1; reconfigure 1 to 15; send 1 to 2; reconfigure 1 to 15; commit 1 by 3; reconfigure 1 to 15; elect
--- 3 by 6
+-- the case's nine actions: kind, i, j and the set of each
 abbrev pub plan : List ℕ
 plan =
     bytes 1 1 0 3

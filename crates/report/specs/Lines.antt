@@ -19,7 +19,7 @@ reply (suc r) = text " refused" ++ field (suc r)
 unfoldable pub repliedLine : ℕ → ℕ → List ℕ
 repliedLine k r = decimal k ++ reply r ++ text "\n"
 
--- what is left over where action k would begin is shorter than an action
+-- fewer than 8 bytes, but some, are left for action k
 unfoldable pub cutLine : ℕ → List ℕ
 cutLine k = decimal k ++ text " cut\n"
 
@@ -47,7 +47,7 @@ figures a = a .term .0 ∷ a .set ∷ a .version .0 ∷ a .config .0 ∷ a .leng
 unfoldable pub shownRow : ℕ → Row → List ℕ
 shownRow s a = text "row" ++ field s ++ letter (a .role) ++ fields (figures a) ++ text "\n"
 
--- server s, which is a
+-- the line of server number s, with a's figures
 abbrev pub rowLine : ℕ → Server → List ℕ
 rowLine s a = shownRow s (seen a)
 

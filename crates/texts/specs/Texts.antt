@@ -12,7 +12,7 @@ abbrev pub text : String → List ℕ
 text string.[] = []
 text (string._∷_ c s) = code c ∷ text s
 
--- the digits of n, where k is more than n: those of a tenth of n, and the last one
+-- n in digits: those of a tenth of n, and the last one; k, more than n, only bounds how often
 unfoldable pub digits : ℕ → ℕ → List ℕ
 digits zero n = []
 digits (suc k) n =
