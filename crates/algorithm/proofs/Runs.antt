@@ -26,8 +26,8 @@ play-keeps P keeps t [] h = h
 play-keeps P keeps t (a ∷ p) h = play-keeps P keeps (step t a .table) p (keeps t a h)
 
 -- a run of a table that keeps the rules ends in one that does
-pub run-sound : (t : Table) (p : List ℕ) → Fails (broken t) → Fails (broken (run t p .table))
-run-sound t p = play-keeps (λ t. Fails (broken t)) step-sound t (pieces (pieceCount p) p)
+pub run-sound : (k : ℕ) (t : Table) (p : List ℕ) → Fails (broken t) → Fails (broken (runTo k t p .table))
+run-sound k t p = play-keeps (λ t. Fails (broken t)) step-sound t (pieces k p)
 
 -- ---- one plan after another
 

@@ -41,13 +41,13 @@ pub record SoundTable (t : Table) : Type 0 where
 config-sound : {n : ℕ} {C : Config} → Passes (soundConfig n C) → SoundConfig n C
 config-sound h =
     let (abc, d) = both h in
-    let (ab, c) = both abc in
-    let (a, b) = both ab in
+    let (a, bc) = both abc in
+    let (b, c) = both bc in
     record { set = a; some = at-most b; version = at-most c; term = at-most d }
 
 sound-config : {n : ℕ} {C : Config} → SoundConfig n C → Passes (soundConfig n C)
 sound-config h =
-    together (together (together (h .set) (is-at-most (h .some))) (is-at-most (h .version))) (is-at-most (h .term))
+    together (together (h .set) (together (is-at-most (h .some)) (is-at-most (h .version)))) (is-at-most (h .term))
 
 pub server-sound : {n : ℕ} {s : Server} → Passes (soundServer n s) → SoundServer n s
 server-sound h =

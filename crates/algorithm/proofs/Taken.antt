@@ -8,7 +8,7 @@ use native.Mathlib.Nat.{eq-or-lt-of-le}
 use native.Mathlib.Decide.{decLe}
 use native.Mathlib.Omega.{arith}
 use lib.Dec.{ltb, eqb}
-use lib.ListN.{length, take, List·getD-eq-default}
+use lib.ListN.{length, getD, take, List·getD-eq-default}
 use Rattle.members.specs.Members.{member, within, majority}
 use Rattle.members.proofs.Tests.{Passes, both, together, either, neither, refuted, contradiction, both-refuted, equal, unequal, less, not-less, at-most, is-equal, is-at-most}
 use Rattle.members.proofs.Majorities.{majority-is, one-apart, most-map, all-pass, none-passes, most-pass}
@@ -47,10 +47,13 @@ is-prefix (e ∷ l) (d ∷ m) f =
     together (is-equal (f .same 1 (omega arith)))
     (is-prefix l m (record { short = omega (arith, f .short); same = elim [ zero ↦ λ _. refl | suc k ↦ λ h. f .same (suc (suc k)) (omega arith) ] }))
 
-some-marked : (t : Table) (u k : ℕ) → Passes (someMarked k t u) → (p : ℕ) × (mark t p ≡ u)
-unfolding someMarked
-some-marked t u zero h = absurd (h .yes)
-some-marked t u (suc k) h = ⊎-elim (λ e. (suc k, equal e)) (λ r. some-marked t u k r) (either {a = eqb (mark t (suc k)) u} h)
+some-marked : (ms : List ℕ) (u : ℕ) → Passes (someMarked ms u) → (p : ℕ) × (nth ms p 0 ≡ u)
+unfolding someMarked nth
+some-marked ms u h = let (k, e) = go ms h in (suc k, e)
+  where
+    go : (ms : List ℕ) → Passes (someMarked ms u) → (k : ℕ) × (getD ms k 0 ≡ u)
+    go [] h = absurd (h .yes)
+    go (m ∷ ms) h = ⊎-elim (λ e. (0, equal e)) (λ r. let (k, e) = go ms r in (suc k, e)) (either {a = eqb m u} h)
 
 holds-marked : (t : Table) (u : ℕ) (l : Log) (k : ℕ) → Passes (holdsMarked k t u l) → (p : ℕ) → 1 ≤ p → p ≤ k → mark t p ≡ u → Holds l p u
 unfolding holdsMarked
@@ -120,7 +123,7 @@ module _ (t : Table) (i m : ℕ) (k : Taken t (reconfigure i m)) where
   settled : Passes (p1 t i) → a .role ≡ 1 → Settled (view t) i
   settled h leads =
       let (some, most) = both h in
-      let (p, e) = some-marked t (a .term) positions some in
+      let (p, e) = some-marked (t .marks) (a .term) some in
       record {
         position = p;
         marked = record { is = e; positive = ⊎-elim (λ r. r .1) (λ r. absurd (omega arith)) (here-sound table i (k .fit .0) .role) };

@@ -132,10 +132,10 @@ sameConfig t i s =
 abbrev pub sameTerm : Table → ℕ → ℕ → Bool
 sameTerm t i s = eqb (server t s .term) (server t i .term)
 
--- one of the positions 1 to k is marked with the term T (never 0 here: a primary's is asked for)
-unfoldable pub someMarked : ℕ → Table → ℕ → Bool
-someMarked zero t T = false
-someMarked (suc k) t T = eqb (mark t (suc k)) T || someMarked k t T
+-- one of the marks is of the term T (never 0 here: a primary's is asked for)
+unfoldable pub someMarked : List ℕ → ℕ → Bool
+someMarked [] T = false
+someMarked (m ∷ ms) T = eqb m T || someMarked ms T
 
 -- the log l holds every entry marked with the term T at the positions 1 to k
 unfoldable pub holdsMarked : ℕ → Table → ℕ → Log → Bool
@@ -154,9 +154,9 @@ q1 t i = mostPass (count t) (sameConfig t i) (server t i .config .set)
 abbrev pub q2 : Table → ℕ → Bool
 q2 t i = mostPass (count t) (sameTerm t i) (server t i .config .set)
 
--- P1: some position is marked with i's term, and a majority of i's set has that term and every entry marked with it
+-- P1: some mark is of i's term, and a majority of i's set has that term and every entry marked with it
 abbrev pub p1 : Table → ℕ → Bool
-p1 t i = someMarked positions t (server t i .term) && mostPass (count t) (holdsCommitted t i) (server t i .config .set)
+p1 t i = someMarked (t .marks) (server t i .term) && mostPass (count t) (holdsCommitted t i) (server t i .config .set)
 
 -- reconfigure: 6 and 11 to 16
 abbrev pub reconfigureRefusals : Table → ℕ → ℕ → List Refusal

@@ -2,9 +2,9 @@
 use Prim.Native.Nat.{ℕ}
 use mathlib.Core.Bool.{Bool, true, false, _&&_, _||_}
 use mathlib.Core.List.{[], _∷_}
-use lib.Dec.{leb, ltb, eqb}
+use lib.Dec.{ltb, eqb}
 use lib.ListN.{length}
-use Rattle.algorithm.specs.Table.{Config, Log, termAt}
+use Rattle.algorithm.specs.Table.{between, Config, Log, termAt}
 
 -- C is newer than D: by its configuration term, and where these are equal by its version
 abbrev pub newer : Config → Config → Bool
@@ -20,7 +20,7 @@ ahead l m = ltb (last m) (last l) || eqb (last l) (last m) && ltb (length m) (le
 
 -- the entry (p, T) is held by l: l has the term T at position p
 abbrev pub held : Log → ℕ → ℕ → Bool
-held l p T = leb 1 p && leb p (length l) && eqb (termAt l p) T
+held l p T = between 1 (length l) p && eqb (termAt l p) T
 
 -- l is a prefix of m
 unfoldable pub prefix : Log → Log → Bool

@@ -2,10 +2,10 @@
 use Prim.Native.Nat.{ℕ}
 use mathlib.Core.Bool.{Bool, cond, not, _&&_, _||_}
 use mathlib.Core.List.{List, [], _∷_, _++_}
-use lib.Dec.{leb, eqb}
+use lib.Dec.{eqb}
 use lib.ListN.{length}
 use Rattle.members.specs.Members.{within}
-use Rattle.algorithm.specs.Table.{Table, count, broken}
+use Rattle.algorithm.specs.Table.{between, Table, count, broken}
 use Rattle.algorithm.specs.Actions.{byte, kindOf, iOf, jOf, setOf, usesSet, usesJ, Action, unknown, elect, reconfigure, send, spread, write, fetch, rollBack, commit, actionOf, Refusal, refuse, electRefusals, reconfigureRefusals, sendRefusals, spreadRefusals, writeRefusals, fetchRefusals, rollBackRefusals, commitRefusals}
 
 -- a field is not 0
@@ -18,13 +18,13 @@ strayZero bs = stray (byte bs 3) || stray (byte bs 6) || stray (byte bs 7)
 
 -- i is the number of one of n servers
 abbrev pub known : ℕ → ℕ → Bool
-known n i = leb 1 i && leb i n
+known n i = between 1 n i
 
 -- 2 to 5, beside a table of n servers
 abbrev pub formRefusals : ℕ → List ℕ → List Refusal
 formRefusals n bs =
     let k = kindOf bs in
-    refuse 2 (not (eqb (length bs) 8) || not (leb 1 k && leb k 8))
+    refuse 2 (not (eqb (length bs) 8) || not (between 1 8 k))
     ∷ refuse 3 (strayZero bs || not (usesJ k) && stray (jOf bs) || not (usesSet k) && stray (setOf bs))
     ∷ refuse 4 (not (known n (iOf bs)) || usesJ k && not (known n (jOf bs)))
     ∷ refuse 5 (usesSet k && not (within (setOf bs) n))
@@ -54,3 +54,7 @@ refusals t bs = commonRefusals t bs ++ ownRefusals t (actionOf bs)
 unfoldable pub first : List Refusal → ℕ
 first [] = 0
 first (r ∷ rs) = cond (r .holds) (r .number) (first rs)
+
+-- a where the number says that nothing is refused, and b where it is a refusal's
+abbrev pub unlessRefused : {A : Type 0} → ℕ → A → A → A
+unlessRefused k a b = cond (eqb k 0) a b

@@ -1,12 +1,10 @@
 -- One action on a table, and a list of them. Assumes nothing.
 use Prim.Native.Nat.{ℕ, zero, suc, _+_, _/_}
-use mathlib.Core.Bool.{cond}
 use mathlib.Core.List.{List, [], _∷_}
-use lib.Dec.{eqb}
 use lib.ListN.{length, take, drop}
 use Rattle.algorithm.specs.Table.{Table}
 use Rattle.algorithm.specs.Actions.{Action, unknown, elect, reconfigure, send, spread, write, fetch, rollBack, commit, actionOf, electAfter, reconfigureAfter, sendAfter, spreadAfter, writeAfter, fetchAfter, rollBackAfter, commitAfter}
-use Rattle.algorithm.specs.Refusals.{refusals, first}
+use Rattle.algorithm.specs.Refusals.{refusals, first, unlessRefused}
 
 -- the table after the action, where it is taken; an unknown one never is
 unfoldable pub after : Table → Action → Table
@@ -29,7 +27,7 @@ pub record Outcome : Type 0 where
 unfoldable pub step : Table → List ℕ → Outcome
 step t bs =
     let k = first (refusals t bs) in
-    record { number = k; table = cond (eqb k 0) (after t (actionOf bs)) t }
+    record { number = k; table = unlessRefused k (after t (actionOf bs)) t }
 
 -- the first k pieces of 8 bytes; one that the end cuts is shorter, and beyond the end they are empty: neither is ever taken
 unfoldable pub pieces : ℕ → List ℕ → List (List ℕ)

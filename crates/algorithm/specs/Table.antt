@@ -24,6 +24,12 @@ module _ {A : Type 0} where
   every p [] = true
   every p (a ∷ l) = p a && every p l
 
+-- ---- numbers within bounds
+
+-- v is from low to high
+abbrev pub between : ℕ → ℕ → ℕ → Bool
+between low high v = leb low v && leb v high
+
 -- ---- figures
 
 -- a configuration: a set of servers, a version, a configuration term
@@ -138,11 +144,11 @@ positions = 64
 
 -- a configuration: its set has some of n servers and no other, its version is from 1, and both its counters are up to the ceiling
 abbrev pub soundConfig : ℕ → Config → Bool
-soundConfig n c = within (c .set) n && leb 1 (c .version) && leb (c .version) ceiling && leb (c .term) ceiling
+soundConfig n c = within (c .set) n && between 1 ceiling (c .version) && leb (c .term) ceiling
 
 -- an entry: a term 1 to the ceiling
 abbrev pub soundEntry : Entry → Bool
-soundEntry e = leb 1 (e .term) && leb (e .term) ceiling
+soundEntry e = between 1 ceiling (e .term)
 
 -- a server: secondary, or primary of a term from 1; its term up to the ceiling; its configuration, and each of at most 64 entries, as above
 abbrev pub soundServer : ℕ → Server → Bool
@@ -157,9 +163,13 @@ soundServer n s =
 abbrev pub soundMarks : List ℕ → Bool
 soundMarks ms = eqb (length ms) positions && every (λ m. leb m ceiling) ms
 
--- a rule is broken: not 1 to 16 servers, or one of them or the marks not as above
+-- the number of servers: 1 to 16
+abbrev pub soundCount : ℕ → Bool
+soundCount n = between 1 16 n
+
+-- a rule is broken: the number of servers, one of them or the marks are not as above
 unfoldable pub broken : Table → Bool
-broken t = not (leb 1 (count t) && leb (count t) 16 && every (soundServer (count t)) (t .servers) && soundMarks (t .marks))
+broken t = not (soundCount (count t) && every (soundServer (count t)) (t .servers) && soundMarks (t .marks))
 
 -- ---- a fresh table
 

@@ -9,9 +9,9 @@ use lib.Dec.{leb, eqb}
 use lib.ListN.{length, getD, take, drop, length-drop, length-map}
 use lib.Seq.{take-all, length-take-le}
 use borrow.Author.Tests.{le-leb, ne-eqb}
-use Rattle.algorithm.specs.Table.{nth, every, entries, withLog, ceiling, soundEntry, soundServer}
+use Rattle.algorithm.specs.Table.{nth, every, between, entries, withLog, ceiling, soundEntry, soundServer}
 use Rattle.figures.specs.Figures.{figured}
-use Rattle.words.specs.Words.{words, part, between}
+use Rattle.words.specs.Words.{words, part}
 use Rattle.words.proofs.WordLaws.{length-words}
 use Rattle.table.proofs.SoundLaws.{server-parts}
 use Rattle.contents.specs.Contents.{halfAt, countIn, offset, size, stop}

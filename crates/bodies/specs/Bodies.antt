@@ -4,8 +4,8 @@ use mathlib.Core.Bool.{Bool, _&&_, _||_}
 use mathlib.Core.List.{List}
 use lib.Dec.{leb, eqb}
 use lib.ListN.{length, getD, take, drop}
-use Rattle.algorithm.specs.Table.{nth, every, entries, Server, ceiling, positions, soundServer}
-use Rattle.words.specs.Words.{words, between}
+use Rattle.algorithm.specs.Table.{nth, every, between, entries, Server, ceiling, positions, soundServer}
+use Rattle.words.specs.Words.{words}
 use Rattle.table.specs.Layout.{padded}
 use Rattle.contents.specs.Contents.{halfAt, countIn, offset, size, allBelow}
 

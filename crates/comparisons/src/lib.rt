@@ -3,7 +3,7 @@ ghost use mathlib.Core.Path.{_≡_};
 ghost use mathlib.Core.Bool.{not, _&&_, _||_};
 ghost use Prim.Native.Nat.{_≤_};
 ghost use lib.Dec.{ltb, eqb};
-ghost use Rattle.algorithm.specs.Table.{server};
+ghost use Rattle.algorithm.specs.Table.{server, positions};
 ghost use Rattle.algorithm.specs.Comparisons.{held, prefix};
 ghost use Rattle.algorithm.specs.Actions.{largerTerm, newerConfig, logAhead, sameConfig, sameTerm, supportsAt, joins as joinsOf};
 ghost use Rattle.table.specs.Layout.{tableIn};
@@ -103,7 +103,7 @@ pub fn same_term(t: &[u8], i: usize, s: usize) -> bool
 pub fn holds(t: &[u8], s: usize, p: Position, term: Term) -> bool
     requires { ⌜ Held (now t) ⌝ }
     requires { ⌜ Within (now t) s ⌝ }
-    requires { ⌜ p .0 ≤ 64 ⌝ }
+    requires { ⌜ p .0 ≤ positions ⌝ }
     ensures { λ r. ⌜ r ≡ held (server (tableIn (now (t .entry))) s .log) (p .0) (term .0) ⌝ }
 {
     if p.0 == 0 {
@@ -117,7 +117,7 @@ pub fn supports(t: &[u8], i: usize, s: usize, p: Position) -> bool
     requires { ⌜ Held (now t) ⌝ }
     requires { ⌜ Within (now t) i ⌝ }
     requires { ⌜ Within (now t) s ⌝ }
-    requires { ⌜ p .0 ≤ 64 ⌝ }
+    requires { ⌜ p .0 ≤ positions ⌝ }
     ensures { λ r. ⌜ r ≡ supportsAt (tableIn (now (t .entry))) i (p .0) s ⌝ }
 {
     same_term(t, i, s) & holds(t, s, p, term_of(t, i))

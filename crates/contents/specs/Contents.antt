@@ -4,7 +4,7 @@ use mathlib.Core.Bool.{Bool, true, _&&_}
 use mathlib.Core.List.{List}
 use lib.Dec.{leb, eqb}
 use lib.ListN.{length, getD}
-use Rattle.algorithm.specs.Table.{positions}
+use Rattle.algorithm.specs.Table.{between, positions, soundCount}
 
 -- ---- the opening
 
@@ -27,9 +27,9 @@ opened im =
 abbrev pub countIn : List ℕ → ℕ
 countIn im = getD im 4 0
 
--- it is from 1 to 16
+-- a table may have so many
 abbrev pub counted : List ℕ → Bool
-counted im = leb 1 (countIn im) && leb (countIn im) 16
+counted im = soundCount (countIn im)
 
 -- ---- the contents: entry 0 is for the marks, entry s for server s
 
@@ -61,7 +61,7 @@ fixed (suc s) = 16
 
 -- body e may be v bytes long: its fixed part, and four bytes for each of 0 to 64 entries or marks
 abbrev pub mayHave : ℕ → ℕ → Bool
-mayHave e v = leb (fixed e) v && leb v (fixed e + 4 * positions) && eqb (v % 4) 0
+mayHave e v = between (fixed e) (fixed e + 4 * positions) v && eqb (v % 4) 0
 
 -- entry e is as it has to be, and its body ends within the input
 abbrev pub laid : List ℕ → ℕ → Bool

@@ -4,11 +4,11 @@ use mathlib.Core.Path.{_≡_, sym, _∙_}
 use mathlib.Core.Bool.{Bool, _&&_, _||_, and-true}
 use lib.Dec.{leb, eqb}
 use Rattle.members.specs.Members.{within}
-use Rattle.algorithm.specs.Table.{every, ceiling, soundServer}
+use Rattle.algorithm.specs.Table.{every, between, ceiling, soundServer}
 use Rattle.figures.specs.Figures.{figured}
 
 pub figures-tell : (role term set version config n : ℕ) (w : Bool) → w ≡ within set n
-    → ((eqb role 1 && leb 1 term || eqb role 0) && leb term ceiling && (w && leb 1 version && leb version ceiling && leb config ceiling))
+    → ((eqb role 1 && leb 1 term || eqb role 0) && leb term ceiling && (w && between 1 ceiling version && leb config ceiling))
     ≡ soundServer n (figured role term set version config)
 unfolding every
 figures-tell role term set version config n w e = rw e (sym (and-true _ ∙ and-true _))

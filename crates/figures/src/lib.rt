@@ -13,8 +13,7 @@ pub fn figures_sound(role: u32, term: Term, set: u32, version: Version, config: 
 {
     let role_sound = (role == 1) & (1 <= term.0) | (role == 0);
     let config_sound = is_within(set, n)
-        & (1 <= version.0)
-        & (version.0 <= CEILING)
+        & ((1 <= version.0) & (version.0 <= CEILING))
         & (config.0 <= CEILING);
     role_sound & (term.0 <= CEILING) & config_sound
 }

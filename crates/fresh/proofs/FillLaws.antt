@@ -9,7 +9,7 @@ use borrow.Author.Fill.{fill-none, fill-more}
 use lib.Seq.{drop-length, set-at, getD-at, append-snoc}
 use Rattle.algorithm.specs.Table.{nth, replace, Server, Table, count, absent, changed, withConfig, freshServer, fresh}
 use Rattle.words.specs.Words.{words, Put}
-use Rattle.table.specs.Layout.{padded, rows, layout, tableIn}
+use Rattle.table.specs.Layout.{tableBytes, padded, rows, layout, tableIn}
 use Rattle.table.specs.Slice.{AllRoomy, Holds, Held, Became, Within, blank}
 use Rattle.table.proofs.LayoutLaws.{rows-none}
 use Rattle.table.proofs.HeldLaws.{its-table, held}
@@ -62,11 +62,11 @@ roomy-replicate : (n : ℕ) → AllRoomy (replicate n absent)
 roomy-replicate zero = tt
 roomy-replicate (suc n) = (record { short = omega arith; small = omega arith }, roomy-replicate n)
 
-pub blank-holds : (b b₁ b₂ : List ℕ) (n : ℕ) → length b ≡ 4760 → n ≤ 16 → b₁ ≡ replicate (length b) 0 → Put b₁ b₂ 0 n → Holds b₂ (blank n)
+pub blank-holds : (b b₁ b₂ : List ℕ) (n : ℕ) → length b ≡ tableBytes → n ≤ 16 → b₁ ≡ replicate (length b) 0 → Put b₁ b₂ 0 n → Holds b₂ (blank n)
 blank-holds b b₁ b₂ n z h e p =
-    let cleared : b₁ ≡ replicate 4760 0 = e ∙ ap (λ (k : ℕ). replicate k 0) z in
+    let cleared : b₁ ≡ replicate tableBytes 0 = e ∙ ap (λ (k : ℕ). replicate k 0) z in
     record {
-      sized = p .sized ∙ ap length cleared ∙ length-replicate {A = ℕ} 4760 0;
+      sized = p .sized ∙ ap length cleared ∙ length-replicate {A = ℕ} tableBytes 0;
       laid = p .word ∙ ap (λ (l : List ℕ). set l 0 n) (ap words cleared ∙ words-zero 1190) ∙ layout-blank n h;
       shaped = record { few = omega (arith, length-replicate n absent); roomy = roomy-replicate n; marked = length-replicate {A = ℕ} 64 0 };
     }

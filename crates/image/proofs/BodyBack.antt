@@ -8,10 +8,10 @@ use lib.Dec.{leb, eqb, le→leb}
 use lib.ListN.{length, length-map}
 use borrow.Author.Tests.{ne-eqb}
 use Rattle.members.proofs.Tests.{Passes, together}
-use Rattle.algorithm.specs.Table.{nth, every, Entry, entries, Server, ceiling, soundServer, kept, trimmed}
+use Rattle.algorithm.specs.Table.{nth, every, between, Entry, entries, Server, ceiling, soundServer, kept, trimmed}
 use Rattle.algorithm.proofs.Lists.{every-cons, cons-every}
 use Rattle.algorithm.proofs.Sound.{SoundServer, server-sound}
-use Rattle.words.specs.Words.{wordOf, words, between}
+use Rattle.words.specs.Words.{wordOf, words}
 use Rattle.words.proofs.WordLaws.{length-bytes, words-bytes, words-between}
 use Rattle.table.specs.Layout.{padded, terms}
 use Rattle.table.proofs.LayoutLaws.{entries-terms}

@@ -8,12 +8,12 @@ use lib.Dec.{leb, eqb}
 use lib.ListN.{length, getD, take, length-append, length-map, List·getD-map}
 use lib.Seq.{take-suc, take-length}
 use Rattle.members.proofs.Tests.{Passes, together, is-equal, is-at-most}
-use Rattle.algorithm.specs.Table.{Server, Table, absent, nth, every, count, ceiling, soundServer, broken, trimmed}
+use Rattle.algorithm.specs.Table.{Server, Table, absent, nth, every, between, count, ceiling, soundServer, broken, trimmed}
 use Rattle.algorithm.proofs.Lists.{every-nth}
 use Rattle.algorithm.proofs.Sound.{SoundTable, table-sound}
 use Rattle.table.specs.Slice.{AllRoomy, Shaped}
-use Rattle.words.specs.Words.{between}
 use Rattle.words.proofs.WordLaws.{length-bytes}
+use Rattle.table.specs.Layout.{tableBytes}
 use Rattle.table.proofs.BoolLaws.{is-true}
 use Rattle.table.proofs.SoundLaws.{marks-sound}
 use Rattle.table.proofs.HeldLaws.{roomy-at}
@@ -147,7 +147,7 @@ module _ (t : Table) (h : broken t ≡ false) where
     unfolding soundBodies
     all-sound = below-all (count t + 1) (soundAt im) sound-body
 
-    number : (slice : List ℕ) → length slice ≡ 4760 → readReply im slice ≡ 0
+    number : (slice : List ℕ) → length slice ≡ tableBytes → readReply im slice ≡ 0
     number slice e =
         let some : Passes (counted im) = together {a = leb 1 (count t)} (is-at-most (rules .some)) (is-at-most (rules .few)) in
         sym
@@ -188,7 +188,7 @@ module _ (t : Table) (h : broken t ≡ false) where
         append-assoc (opening (count t)) (contents (firstBody (count t)) (bodies t) ++ flatten (bodies t)) rest
         ∙ ap (λ (l : List ℕ). opening (count t) ++ l) (append-assoc (contents (firstBody (count t)) (bodies t)) (flatten (bodies t)) rest)
 
-    pub number-back : (slice : List ℕ) → length slice ≡ 4760 → readReply (image t ++ rest) slice ≡ 0
+    pub number-back : (slice : List ℕ) → length slice ≡ tableBytes → readReply (image t ++ rest) slice ≡ 0
     number-back slice e = rw same (number slice e)
 
     pub table-back : readTable (image t ++ rest) ≡ t

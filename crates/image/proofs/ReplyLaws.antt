@@ -11,7 +11,7 @@ use Rattle.members.proofs.Tests.{Passes, both, refuted, equal, at-most}
 use Rattle.algorithm.specs.Table.{every}
 use Rattle.algorithm.specs.Refusals.{first}
 use Rattle.algorithm.proofs.Refused.{first-later}
-use Rattle.table.specs.Layout.{stored}
+use Rattle.table.specs.Layout.{tableBytes, stored}
 use Rattle.table.specs.Slice.{Holds}
 use Rattle.table.proofs.BoolLaws.{three}
 use Rattle.table.proofs.StoredLaws.{held-stored}
@@ -24,38 +24,38 @@ use Rattle.contents.proofs.BelowLaws.{all-below}
 -- ---- the refusals one by one
 
 module _ (im slice : List ℕ) where
-  pub reply-1 : (length slice ≡ 4760 → ⊥) → 1 ≡ readReply im slice
+  pub reply-1 : (length slice ≡ tableBytes → ⊥) → 1 ≡ readReply im slice
   unfolding readReply first
-  reply-1 h = rw (ne-eqb (length slice) 4760 h)
+  reply-1 h = rw (ne-eqb (length slice) tableBytes h)
 
-  module _ (sized : length slice ≡ 4760) where
+  module _ (sized : length slice ≡ tableBytes) where
     pub reply-30 : length im < 8 → 30 ≡ readReply im slice
     unfolding readReply first
-    reply-30 h = rw (eq-eqb (length slice) 4760 sized, lt-ltb (length im) 8 h)
+    reply-30 h = rw (eq-eqb (length slice) tableBytes sized, lt-ltb (length im) 8 h)
 
     module _ (long : 8 ≤ length im) (o : Bool) (eo : o ≡ opened im) where
       pub reply-31 : not o ≡ true → 31 ≡ readReply im slice
       unfolding readReply first
-      reply-31 h = rw (eq-eqb (length slice) 4760 sized, le-ltb (length im) 8 long, ← eo, h)
+      reply-31 h = rw (eq-eqb (length slice) tableBytes sized, le-ltb (length im) 8 long, ← eo, h)
 
       module _ (ho : not o ≡ false) (n : Bool) (en : n ≡ counted im) where
         pub reply-32 : not n ≡ true → 32 ≡ readReply im slice
         unfolding readReply first
-        reply-32 h = rw (eq-eqb (length slice) 4760 sized, le-ltb (length im) 8 long, ← eo, ho, ← en, h)
+        reply-32 h = rw (eq-eqb (length slice) tableBytes sized, le-ltb (length im) 8 long, ← eo, ho, ← en, h)
 
         module _ (hn : not n ≡ false) (l : Bool) (el : l ≡ laidOut im) where
           pub reply-33 : not l ≡ true → 33 ≡ readReply im slice
           unfolding readReply first
-          reply-33 h = rw (eq-eqb (length slice) 4760 sized, le-ltb (length im) 8 long, ← eo, ho, ← en, hn, ← el, h)
+          reply-33 h = rw (eq-eqb (length slice) tableBytes sized, le-ltb (length im) 8 long, ← eo, ho, ← en, hn, ← el, h)
 
           module _ (hl : not l ≡ false) (b : Bool) (eb : b ≡ soundBodies im) where
             pub reply-34 : not b ≡ true → 34 ≡ readReply im slice
             unfolding readReply first
-            reply-34 h = rw (eq-eqb (length slice) 4760 sized, le-ltb (length im) 8 long, ← eo, ho, ← en, hn, ← el, hl, ← eb, h)
+            reply-34 h = rw (eq-eqb (length slice) tableBytes sized, le-ltb (length im) 8 long, ← eo, ho, ← en, hn, ← el, hl, ← eb, h)
 
             pub reply-0 : not b ≡ false → 0 ≡ readReply im slice
             unfolding readReply first
-            reply-0 h = rw (eq-eqb (length slice) 4760 sized, le-ltb (length im) 8 long, ← eo, ho, ← en, hn, ← el, hl, ← eb, h)
+            reply-0 h = rw (eq-eqb (length slice) tableBytes sized, le-ltb (length im) 8 long, ← eo, ho, ← en, hn, ← el, hl, ← eb, h)
 
 -- ---- an image that is laid out
 
@@ -84,7 +84,7 @@ named-by im l e h = named im (record { yes = rw (← e, not-false l h) tt })
 -- ---- an image that is read
 
 pub record Readable (im slice : List ℕ) : Type 0 where
-  pub sized : length slice ≡ 4760
+  pub sized : length slice ≡ tableBytes
   pub some : 1 ≤ countIn im
   pub few : countIn im ≤ 16
   pub named : Named im
@@ -99,7 +99,7 @@ readable im slice e =
 
 module _ (im slice : List ℕ) (k : ℕ) (e : k ≡ readReply im slice) where
   module _ (h : k ≡ 0) where
-    pub read-sized : length slice ≡ 4760
+    pub read-sized : length slice ≡ tableBytes
     read-sized = readable im slice (sym e ∙ h) .sized
 
     pub read-few : countIn im ≤ 16

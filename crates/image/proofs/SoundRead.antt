@@ -6,10 +6,10 @@ use mathlib.Core.List.{List, [], _∷_}
 use lib.Dec.{leb, eqb}
 use lib.ListN.{getD}
 use Rattle.members.proofs.Tests.{Passes, both}
-use Rattle.algorithm.specs.Table.{every, ceiling, soundServer}
+use Rattle.algorithm.specs.Table.{every, between, ceiling, soundServer}
 use Rattle.algorithm.proofs.Lists.{every-cons, cons-every, every-plus}
 use Rattle.algorithm.proofs.Sound.{SoundTable}
-use Rattle.words.specs.Words.{words, between}
+use Rattle.words.specs.Words.{words}
 use Rattle.table.specs.Layout.{padded}
 use Rattle.table.proofs.LayoutLaws.{length-padded}
 use Rattle.contents.specs.Contents.{countIn}

@@ -8,7 +8,7 @@ use lib.ListN.{length}
 use borrow.Author.Tests.{not-true}
 use Rattle.algorithm.specs.Table.{Table, broken}
 use Rattle.algorithm.proofs.Sound.{sound-table}
-use Rattle.table.specs.Layout.{stored, whole}
+use Rattle.table.specs.Layout.{tableBytes, stored, whole}
 use Rattle.table.proofs.BoolLaws.{is-true}
 use Rattle.whole.proofs.Determined.{stored-whole}
 use Rattle.image.specs.Image.{image}
@@ -36,7 +36,7 @@ module _ (im slice : List ℕ) (e k : ℕ) (slice' : List ℕ) (e' : ℕ) (a : R
 
 -- The image of a table that breaks no rule, whatever bytes follow it, is read as that table: it is not refused, the slice has the
 -- table's bytes afterwards, and the end is where the image ends.
-pub read-back : (t : Table) (rest slice : List ℕ) (e : ℕ) → broken t ≡ false → length slice ≡ 4760
+pub read-back : (t : Table) (rest slice : List ℕ) (e : ℕ) → broken t ≡ false → length slice ≡ tableBytes
     → (readReply (image t ++ rest) slice ≡ 0)
     × (readTable (image t ++ rest) ≡ t)
     × (readBytes (image t ++ rest) slice ≡ stored t)

@@ -1,21 +1,21 @@
 -- The reader: its refusals, and what it gives where none holds. Assumes nothing.
 use Prim.Native.Nat.{ℕ, zero, suc, _+_}
-use mathlib.Core.Bool.{cond, not}
+use mathlib.Core.Bool.{not}
 use mathlib.Core.Path.{_≡_}
 use mathlib.Core.List.{List, [], _∷_, _++_}
 use lib.Dec.{ltb, eqb}
 use lib.ListN.{length}
 use Rattle.algorithm.specs.Table.{Server, Table}
 use Rattle.algorithm.specs.Actions.{Refusal, refuse}
-use Rattle.algorithm.specs.Refusals.{first}
-use Rattle.table.specs.Layout.{stored}
+use Rattle.algorithm.specs.Refusals.{first, unlessRefused}
+use Rattle.table.specs.Layout.{tableBytes, stored}
 use Rattle.contents.specs.Contents.{opened, countIn, counted, stop, laidOut}
 use Rattle.bodies.specs.Bodies.{body, marksIn, serverIn, soundBodies}
 
 -- the refusals for an image and the slice that a table is to be read into
 abbrev pub readRefusals : List ℕ → List ℕ → List Refusal
 readRefusals im slice =
-    refuse 1 (not (eqb (length slice) 4760))
+    refuse 1 (not (eqb (length slice) tableBytes))
     ∷ refuse 30 (ltb (length im) 8)
     ∷ refuse 31 (not (opened im))
     ∷ refuse 32 (not (counted im))
@@ -40,17 +40,13 @@ readTable im = record { servers = serversTo (countIn im) im; marks = marksIn (bo
 abbrev pub readEnd : List ℕ → ℕ
 readEnd im = stop im (countIn im)
 
--- a where the image is read, and b where it is refused
-abbrev pub ifRead : {A : Type 0} → List ℕ → List ℕ → A → A → A
-ifRead im slice a b = cond (eqb (readReply im slice) 0) a b
-
 -- the slice afterwards: refused, it is as it was
 abbrev pub readBytes : List ℕ → List ℕ → List ℕ
-readBytes im slice = ifRead im slice (stored (readTable im)) slice
+readBytes im slice = unlessRefused (readReply im slice) (stored (readTable im)) slice
 
 -- the end afterwards, likewise
 abbrev pub endAfter : List ℕ → List ℕ → ℕ → ℕ
-endAfter im slice e = ifRead im slice (readEnd im) e
+endAfter im slice e = unlessRefused (readReply im slice) (readEnd im) e
 
 -- what is answered to an image, a slice and an end: the number, the slice and the end afterwards
 pub record ReadAnswer (im slice : List ℕ) (e r : ℕ) (slice' : List ℕ) (e' : ℕ) : Type 0 where

@@ -3,8 +3,8 @@ ghost use mathlib.Core.Path.{_≡_};
 ghost use mathlib.Core.List.{[]};
 ghost use Prim.Native.Nat.{_≤_};
 ghost use lib.ListN.{length, replicate};
-ghost use Rattle.algorithm.specs.Table.{server, withServer, changed, withLog};
-ghost use Rattle.table.specs.Layout.{tableIn};
+ghost use Rattle.algorithm.specs.Table.{server, withServer, changed, withLog, positions};
+ghost use Rattle.table.specs.Layout.{tableBytes, tableIn};
 ghost use Rattle.table.specs.Slice.{Holds, Held, Became, Within};
 ghost use Rattle.contents.specs.Contents.{countIn};
 ghost use Rattle.bodies.specs.Bodies.{body, marksIn, serverIn};
@@ -67,7 +67,7 @@ fn put_server(t: &mut [u8], s: usize, b: &[u8])
 // The marks of a body for a table that has none yet.
 fn put_marks(t: &mut [u8], b: &[u8])
     requires { ⌜ Held (now t) ⌝ }
-    requires { ⌜ tableIn (now t) .marks ≡ replicate 64 0 ⌝ }
+    requires { ⌜ tableIn (now t) .marks ≡ replicate positions 0 ⌝ }
     requires { ⌜ length (now b) ≤ 256 ⌝ }
     ensures { λ _. ⌜ Became (now (t .entry)) (now (t .exit)) (withMarks (marksIn (now (b .entry))) (tableIn (now (t .entry)))) ⌝ }
 {
@@ -83,7 +83,7 @@ fn put_marks(t: &mut [u8], b: &[u8])
 // The marks from the part of the image that their entry names.
 fn fill_marks(t: &mut [u8], image: &[u8])
     requires { ⌜ Held (now t) ⌝ }
-    requires { ⌜ tableIn (now t) .marks ≡ replicate 64 0 ⌝ }
+    requires { ⌜ tableIn (now t) .marks ≡ replicate positions 0 ⌝ }
     requires { ⌜ Names (now image) 0 ⌝ }
     ensures { λ _. ⌜ Became (now (t .entry)) (now (t .exit)) (withMarks (marksIn (body (now (image .entry)) 0)) (tableIn (now (t .entry)))) ⌝ }
 {
@@ -119,7 +119,7 @@ fn fill_servers(t: &mut [u8], image: &[u8])
 }
 
 pub fn fill(t: &mut [u8], image: &[u8])
-    requires { ⌜ length (now t) ≡ 4760 ⌝ }
+    requires { ⌜ length (now t) ≡ tableBytes ⌝ }
     requires { ⌜ countIn (now image) ≤ 16 ⌝ }
     requires { ⌜ Named (now image) ⌝ }
     ensures { λ _. ⌜ Holds (now (t .exit)) (readTable (now (image .entry))) ⌝ }

@@ -15,35 +15,35 @@ use Rattle.members.proofs.Tests.{Passes}
 use Rattle.algorithm.specs.Table.{fresh}
 use Rattle.algorithm.specs.Refusals.{first}
 use Rattle.algorithm.proofs.Seen.{within-width}
-use Rattle.table.specs.Layout.{stored}
+use Rattle.table.specs.Layout.{tableBytes, stored}
 use Rattle.kyntulei.specs.Promise.{freshReply, FreshAnswer}
 
 module _ (b : List ℕ) (n m : ℕ) where
   refused : (k : ℕ) → 0 < k → freshReply b n m ≡ k → FreshAnswer b n m k b
   refused k h e = let z = ne-eqb k 0 (omega arith) in record { reply = sym e; bytes = rw (e, z) }
 
-  pub other-length : (length b ≡ 4760 → ⊥) → FreshAnswer b n m 1 b
+  pub other-length : (length b ≡ tableBytes → ⊥) → FreshAnswer b n m 1 b
   unfolding first
-  other-length h = refused 1 (omega arith) (rw (ne-eqb (length b) 4760 h))
+  other-length h = refused 1 (omega arith) (rw (ne-eqb (length b) tableBytes h))
 
-  module _ (sized : length b ≡ 4760) where
+  module _ (sized : length b ≡ tableBytes) where
     pub no-server : n ≡ 0 → FreshAnswer b n m 32 b
     unfolding first
-    no-server z = refused 32 (omega arith) (rw (eq-eqb (length b) 4760 sized, z))
+    no-server z = refused 32 (omega arith) (rw (eq-eqb (length b) tableBytes sized, z))
 
     pub too-many : (n ≡ 0 → ⊥) → 16 < n → FreshAnswer b n m 32 b
     unfolding first
-    too-many z h = refused 32 (omega arith) (rw (eq-eqb (length b) 4760 sized, le-leb 1 n (omega arith), lt-leb n 16 h))
+    too-many z h = refused 32 (omega arith) (rw (eq-eqb (length b) tableBytes sized, le-leb 1 n (omega arith), lt-leb n 16 h))
 
     module _ (some : n ≡ 0 → ⊥) (few : n ≤ 16) (q : Bool) (is : q ≡ within m n) where
       pub bad-set : q ≡ false → FreshAnswer b n m 5 b
       unfolding first
-      bad-set e = refused 5 (omega arith) (rw (eq-eqb (length b) 4760 sized, le-leb 1 n (omega arith), le-leb n 16 few, ← is, e))
+      bad-set e = refused 5 (omega arith) (rw (eq-eqb (length b) tableBytes sized, le-leb 1 n (omega arith), le-leb n 16 few, ← is, e))
 
       pub filled : (b' : List ℕ) → q ≡ true → b' ≡ stored (fresh n m) → FreshAnswer b n m 0 b'
       unfolding first
       filled b' e k =
-          let z : freshReply b n m ≡ 0 = rw (eq-eqb (length b) 4760 sized, le-leb 1 n (omega arith), le-leb n 16 few, ← is, e) in
+          let z : freshReply b n m ≡ 0 = rw (eq-eqb (length b) tableBytes sized, le-leb 1 n (omega arith), le-leb n 16 few, ← is, e) in
           record { reply = sym z; bytes = rw z k }
 
 -- a set within 16 servers has 16 bits

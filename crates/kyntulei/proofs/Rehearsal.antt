@@ -9,13 +9,13 @@ use mathlib.Core.Path.{_≡_, sym, _∙_}
 use native.Mathlib.Omega.{arith}
 use lib.Dec.{T}
 use lib.ListN.{getD, drop, List·getD-append}
-use Rattle.members.proofs.Tests.{Fails, refuted, both, fails-false, false-fails, at-most}
+use Rattle.members.proofs.Tests.{refuted, both, fails-false, false-fails, at-most}
 use Rattle.algorithm.specs.Table.{every, server, primary, mark, broken, fresh}
 use Rattle.algorithm.specs.Comparisons.{held}
-use Rattle.algorithm.specs.Run.{pieces, runTo}
+use Rattle.algorithm.specs.Run.{runTo}
 use Rattle.algorithm.proofs.Refused.{first-later}
-use Rattle.algorithm.proofs.Kept.{fresh-sound, step-sound}
-use Rattle.algorithm.proofs.Runs.{play-keeps, replies-count}
+use Rattle.algorithm.proofs.Kept.{fresh-sound}
+use Rattle.algorithm.proofs.Runs.{run-sound, replies-count}
 use Rattle.algorithm.proofs.Demands.{never-24, primaries-complete}
 use Rattle.table.specs.Layout.{stored, tableIn}
 use Rattle.table.proofs.StoredLaws.{stored-table}
@@ -50,7 +50,7 @@ module _ (b : List ℕ) (n m : ℕ) (is-done : freshReply b n m ≡ 0) where
     pub exit-table : tableIn b' ≡ runTo k (fresh n m) p .table
     exit-table =
         rw (filled, stored-whole (fresh n m) sound, stored-table (fresh n m) sound)
-        (stored-table (runTo k (fresh n m) p .table) (fails-false (play-keeps (λ t. Fails (broken t)) step-sound (fresh n m) (pieces k p) (false-fails sound))))
+        (stored-table (runTo k (fresh n m) p .table) (fails-false (run-sound k (fresh n m) p (false-fails sound))))
 
     pub exit-replies : (j : ℕ) → j < k → getD r' j 0 ≡ getD (runTo k (fresh n m) p .replies) j 0
     exit-replies j h =

@@ -1,16 +1,16 @@
 -- What the exported functions answer and leave, computed from the bytes that they are given. Assumes nothing.
 use Prim.Native.Nat.{ℕ}
-use mathlib.Core.Bool.{cond, not, _&&_}
+use mathlib.Core.Bool.{cond, not}
 use mathlib.Core.List.{List, [], _∷_, _++_}
 use mathlib.Core.Path.{_≡_}
-use lib.Dec.{leb, eqb}
+use lib.Dec.{eqb}
 use lib.ListN.{length, drop, replicate}
 use Rattle.members.specs.Members.{within}
-use Rattle.algorithm.specs.Table.{fresh}
+use Rattle.algorithm.specs.Table.{soundCount, fresh}
 use Rattle.algorithm.specs.Actions.{Refusal, refuse}
-use Rattle.algorithm.specs.Refusals.{first}
+use Rattle.algorithm.specs.Refusals.{first, unlessRefused}
 use Rattle.algorithm.specs.Run.{step, runTo}
-use Rattle.table.specs.Layout.{stored, tableIn, whole}
+use Rattle.table.specs.Layout.{tableBytes, stored, tableIn, whole}
 use Rattle.engine.specs.Engine.{played}
 
 -- ---- a fresh table of n servers with the set m, into the slice b
@@ -18,7 +18,7 @@ use Rattle.engine.specs.Engine.{played}
 -- in this order: 1 for another length, 32 for n outside 1 to 16, 5 for an empty set or one with a bit above n
 abbrev pub freshRefusals : List ℕ → ℕ → ℕ → List Refusal
 freshRefusals b n m =
-    refuse 1 (not (eqb (length b) 4760)) ∷ refuse 32 (not (leb 1 n && leb n 16)) ∷ refuse 5 (not (within m n)) ∷ []
+    refuse 1 (not (eqb (length b) tableBytes)) ∷ refuse 32 (not (soundCount n)) ∷ refuse 5 (not (within m n)) ∷ []
 
 -- the first of them, or 0
 abbrev pub freshReply : List ℕ → ℕ → ℕ → ℕ
@@ -26,7 +26,7 @@ freshReply b n m = first (freshRefusals b n m)
 
 -- the slice afterwards: the bytes of a fresh table, or as it was
 abbrev pub freshBytes : List ℕ → ℕ → ℕ → List ℕ
-freshBytes b n m = cond (eqb (freshReply b n m) 0) (stored (fresh n m)) b
+freshBytes b n m = unlessRefused (freshReply b n m) (stored (fresh n m)) b
 
 -- the reply r, and the slice b' at exit
 pub record FreshAnswer (b : List ℕ) (n m r : ℕ) (b' : List ℕ) : Type 0 where

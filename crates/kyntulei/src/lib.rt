@@ -1,5 +1,6 @@
 // The engine for the store's release harness: numbers and byte slices in, a number and filled slices out (include/kyntulei.h).
 ghost use mathlib.Core.Path.{_≡_};
+ghost use Rattle.table.specs.Layout.{tableBytes};
 ghost use Rattle.image.specs.Reader.{ReadAnswer};
 ghost use Rattle.writer.specs.Writer.{WriteAnswer};
 ghost use Rattle.kyntulei.specs.Promise.{FreshAnswer, StepAnswer, RunAnswer};
@@ -16,7 +17,7 @@ use writer::write;
 
 #[no_mangle]
 pub extern "C" fn kyntulei_table_bytes() -> usize
-    ensures { λ r. ⌜ r ≡ 4760 ⌝ }
+    ensures { λ r. ⌜ r ≡ tableBytes ⌝ }
 {
     BYTES
 }

@@ -2,7 +2,7 @@
 ghost use mathlib.Core.Path.{_≡_};
 ghost use Prim.Native.Nat.{_≤_};
 ghost use lib.ListN.{length};
-ghost use Rattle.algorithm.specs.Table.{trimmed};
+ghost use Rattle.algorithm.specs.Table.{trimmed, positions};
 ghost use Rattle.table.specs.Layout.{tableIn};
 ghost use Rattle.table.specs.Slice.{Held};
 use algorithm::POSITIONS;
@@ -12,7 +12,7 @@ use table::rows::mark_of;
 // How many there are: marks of 0 may stand between others, so the search begins at the end.
 pub fn marked(t: &[u8]) -> u8
     requires { ⌜ Held (now t) ⌝ }
-    ensures { λ n. ⌜ (n ≡ length (trimmed (tableIn (now (t .entry)) .marks))) × (n ≤ 64) ⌝ }
+    ensures { λ n. ⌜ (n ≡ length (trimmed (tableIn (now (t .entry)) .marks))) × (n ≤ positions) ⌝ }
 {
     let mut n: u8 = POSITIONS;
     while 0 < n {

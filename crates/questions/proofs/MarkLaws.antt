@@ -1,61 +1,85 @@
 -- Laws of the loops over the positions. Assumes nothing.
-use Prim.Native.Nat.{ℕ, zero, suc, _+_, _*_, _≤_}
-use native.Mathlib.Nat.{zero-add, add-zero, add-suc}
+use Prim.Native.Nat.{ℕ, zero, suc, _+_, _*_, _≤_, _<_}
+use native.Mathlib.Nat.{add-zero, add-suc}
 use native.Mathlib.Numerals.{add-one}
 use native.Mathlib.Omega.{arith}
 use mathlib.Core.Path.{_≡_, refl, sym, ap, _∙_}
 use mathlib.Core.Bool.{Bool, true, false, not, cond, _&&_, _||_, and-true, and-comm}
+use mathlib.Core.List.{List, [], _∷_}
 use lib.Dec.{eqb}
+use lib.ListN.{length, getD, take, drop, length-drop}
+use lib.Seq.{getD-drop, take-all}
 use borrow.Author.Tests.{eq-eqb, ne-eqb, not-true}
 use Rattle.members.specs.Members.{passing}
 use Rattle.members.proofs.Masks.{and-both}
-use Rattle.algorithm.specs.Table.{Table, count, server, mark}
+use Rattle.algorithm.specs.Table.{nth, Table, count, server, mark, positions}
 use Rattle.algorithm.specs.Comparisons.{held}
 use Rattle.algorithm.specs.Actions.{sameTerm, someMarked, holdsMarked, holdsCommitted, supportsAt}
-use Rattle.questions.specs.Marks.{markedPast, narrowedAt, narrowedPast}
+use Rattle.table.specs.Layout.{tableIn}
+use Rattle.table.specs.Slice.{Held}
+use Rattle.questions.specs.Marks.{marksPast, narrowedAt, narrowedPast}
 
 -- ---- some position is marked
 
-module _ (o : ℕ) (t : Table) (v : ℕ) where
-  pub marked-none : false ≡ markedPast o 0 t v
-  unfolding markedPast
+-- one mark more
+some-more : (l : List ℕ) (k v : ℕ) → k < length l → someMarked (take (suc k) l) v ≡ (eqb (getD l k 0) v || someMarked (take k l) v)
+unfolding someMarked
+some-more [] k v h = absurd (omega arith)
+some-more (m ∷ l) zero v h = refl
+some-more (m ∷ l) (suc k) v h = ap (λ (b : Bool). eqb m v || b) (some-more l k v (omega arith)) ∙ turned (eqb m v) (eqb (getD l k 0) v) (someMarked (take k l) v)
+  where
+    turned : (a b c : Bool) → (a || (b || c)) ≡ (b || (a || c))
+    turned true true c = refl
+    turned true false c = refl
+    turned false b c = refl
+
+module _ {b : List ℕ} (held : Held b) (o v : ℕ) where
+  abbrev t : Table
+  t = tableIn b
+
+  marked-more : (k : ℕ) → o + k < 64 → someMarked (marksPast o (suc k) t) v ≡ (eqb (mark t (o + suc k)) v || someMarked (marksPast o k t) v)
+  unfolding nth
+  marked-more k l =
+      some-more (drop o (t .marks)) k v (simp length-drop (omega (arith, held .shaped .marked)))
+      ∙ rw (getD-drop o (t .marks) k 0, add-suc o k)
+
+  pub marked-none : false ≡ someMarked (marksPast o 0 t) v
+  unfolding someMarked
   marked-none = refl
 
-  pub marked-next : (k : ℕ) (r : Bool) (m w : ℕ) → r ≡ markedPast o k t v → m ≡ mark t (o + (k + 1)) → w ≡ v
-      → (eqb m w || r) ≡ markedPast o (k + 1) t v
-  unfolding markedPast
-  marked-next k r m w e f g = rw (e, f, g, add-one)
+  pub marked-next : (k n : ℕ) (r : Bool) (m w : ℕ) → o + n ≤ 64 → k < n → r ≡ someMarked (marksPast o k t) v → m ≡ mark t (o + (k + 1)) → w ≡ v
+      → (eqb m w || r) ≡ someMarked (marksPast o (k + 1) t) v
+  marked-next k n r m w l h e f g = rw (e, f, g, add-one) (sym (marked-more k (omega arith)))
 
-  pub marked-all : (k n : ℕ) (r : Bool) → k ≤ n → n ≤ k → r ≡ markedPast o k t v → r ≡ markedPast o n t v
+  pub marked-all : (k n : ℕ) (r : Bool) → k ≤ n → n ≤ k → r ≡ someMarked (marksPast o k t) v → r ≡ someMarked (marksPast o n t) v
   marked-all k n r l h e = let all : k ≡ n = omega arith in rw all at e
 
--- past position 0
-past-start : (k : ℕ) (t : Table) (v : ℕ) → markedPast 0 k t v ≡ someMarked k t v
-unfolding markedPast someMarked
-past-start zero t v = refl
-past-start (suc k) t v = rw (zero-add, past-start k t v)
-
-pub marked-any : (k : ℕ) (t : Table) (v : ℕ) (r : Bool) → r ≡ markedPast 0 k t v → r ≡ someMarked k t v
-marked-any k t v r e = e ∙ past-start k t v
+-- of all positions
+pub marked-any : {b : List ℕ} (v : ℕ) (r : Bool) → Held b → r ≡ someMarked (marksPast 0 positions (tableIn b)) v → r ≡ someMarked (tableIn b .marks) v
+marked-any {b} v r held e = e ∙ ap (λ (l : List ℕ). someMarked l v) (take-all 64 (tableIn b .marks) (omega (arith, held .shaped .marked)))
 
 -- ---- a set narrowed
 
-module _ (o : ℕ) (t : Table) (i q : ℕ) where
+module _ {b : List ℕ} (held : Held b) (o i q : ℕ) where
+  abbrev T : ℕ
+  T = server (tableIn b) i .term
+
   -- where no position is marked it stays
-  unmarked : (k : ℕ) → markedPast o k t (server t i .term) ≡ false → q ≡ narrowedPast o k t i q
-  unfolding markedPast narrowedPast
-  unmarked zero e = refl
-  unmarked (suc k) e =
-      let none = apart (eqb (mark t (o + suc k)) (server t i .term)) (markedPast o k t (server t i .term)) e in
-      unmarked k (none .1) ∙ rw (none .0)
+  unmarked : (k : ℕ) → o + k ≤ 64 → someMarked (marksPast o k (tableIn b)) T ≡ false → q ≡ narrowedPast o k (tableIn b) i q
+  unfolding narrowedPast
+  unmarked zero l e = refl
+  unmarked (suc k) l e =
+      let none = apart (eqb (mark (tableIn b) (o + suc k)) T) (someMarked (marksPast o k (tableIn b)) T) (sym (marked-more held o T k (omega arith)) ∙ e) in
+      unmarked k (omega arith) (none .1) ∙ rw (none .0)
     where
       apart : (a b : Bool) → (a || b) ≡ false → (a ≡ false) × (b ≡ false)
       apart true b e = absurd (let z : _≡_ {A = ℕ} 0 1 = cc in omega arith)
       apart false b e = (refl, e)
 
-  pub past-unmarked : (k : ℕ) (r : Bool) → r ≡ markedPast o k t (server t i .term) → not r ≡ true → q ≡ narrowedPast o k t i q
-  past-unmarked k r e h = unmarked k (sym e ∙ not-true r h)
+  pub past-unmarked : (k : ℕ) (r : Bool) → o + k ≤ 64 → r ≡ someMarked (marksPast o k (tableIn b)) T → not r ≡ true → q ≡ narrowedPast o k (tableIn b) i q
+  past-unmarked k r l e h = unmarked k l (sym e ∙ not-true r h)
 
+module _ (o : ℕ) (t : Table) (i q : ℕ) where
   pub past-none : q ≡ narrowedPast o 0 t i q
   unfolding narrowedPast
   past-none = refl

@@ -3,11 +3,11 @@
 ghost use mathlib.Core.Path.{_≡_};
 ghost use Prim.Native.Nat.{_+_, _≤_};
 ghost use Rattle.members.specs.Members.{passing};
-ghost use Rattle.algorithm.specs.Table.{count, server};
-ghost use Rattle.algorithm.specs.Actions.{sameTerm, holdsCommitted};
+ghost use Rattle.algorithm.specs.Table.{count, server, positions};
+ghost use Rattle.algorithm.specs.Actions.{sameTerm, someMarked, holdsCommitted};
 ghost use Rattle.table.specs.Layout.{tableIn};
 ghost use Rattle.table.specs.Slice.{Held, Within};
-ghost use Rattle.questions.specs.Marks.{markedPast, narrowedAt, narrowedPast};
+ghost use Rattle.questions.specs.Marks.{marksPast, narrowedAt, narrowedPast};
 use crate::shares::supporters;
 use algorithm::Position;
 use table::rows::mark_of;
@@ -17,8 +17,8 @@ use table::rows::term_of;
 pub fn is_marked(t: &[u8], i: usize, from: u8, n: u8) -> bool
     requires { ⌜ Held (now t) ⌝ }
     requires { ⌜ Within (now t) i ⌝ }
-    requires { ⌜ from + n ≤ 64 ⌝ }
-    ensures { λ r. ⌜ r ≡ markedPast from n (tableIn (now (t .entry))) (server (tableIn (now (t .entry))) i .term) ⌝ }
+    requires { ⌜ from + n ≤ positions ⌝ }
+    ensures { λ r. ⌜ r ≡ someMarked (marksPast from n (tableIn (now (t .entry)))) (server (tableIn (now (t .entry))) i .term) ⌝ }
 {
     let term = term_of(t, i).0;
     let mut some = false;
@@ -34,7 +34,7 @@ pub fn is_marked(t: &[u8], i: usize, from: u8, n: u8) -> bool
 fn narrowed_at(t: &[u8], i: usize, q: u16, p: Position) -> u16
     requires { ⌜ Held (now t) ⌝ }
     requires { ⌜ Within (now t) i ⌝ }
-    requires { ⌜ (1 ≤ p .0) × (p .0 ≤ 64) ⌝ }
+    requires { ⌜ (1 ≤ p .0) × (p .0 ≤ positions) ⌝ }
     ensures { λ r. ⌜ r ≡ narrowedAt (tableIn (now (t .entry))) i (p .0) q ⌝ }
 {
     if mark_of(t, p).0 == term_of(t, i).0 {
@@ -47,7 +47,7 @@ fn narrowed_at(t: &[u8], i: usize, q: u16, p: Position) -> u16
 fn narrowed(t: &[u8], i: usize, q: u16, from: u8) -> u16
     requires { ⌜ Held (now t) ⌝ }
     requires { ⌜ Within (now t) i ⌝ }
-    requires { ⌜ from + 8 ≤ 64 ⌝ }
+    requires { ⌜ from + 8 ≤ positions ⌝ }
     ensures { λ r. ⌜ r ≡ narrowedPast from 8 (tableIn (now (t .entry))) i q ⌝ }
 {
     if !is_marked(t, i, from, 8) {

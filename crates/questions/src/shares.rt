@@ -3,7 +3,7 @@ ghost use mathlib.Core.Path.{_≡_};
 ghost use mathlib.Core.Bool.{_&&_};
 ghost use Prim.Native.Nat.{_+_, _≤_, _<_, _^_};
 ghost use Rattle.members.specs.Members.{bit, passing};
-ghost use Rattle.algorithm.specs.Table.{count};
+ghost use Rattle.algorithm.specs.Table.{count, positions};
 ghost use Rattle.algorithm.specs.Actions.{supportsAt};
 ghost use Rattle.table.specs.Layout.{tableIn};
 ghost use Rattle.table.specs.Slice.{Held, Within};
@@ -58,7 +58,7 @@ fn member_supports(t: &[u8], i: usize, q: u16, p: Position, k: usize) -> bool
     requires { ⌜ Held (now t) ⌝ }
     requires { ⌜ Within (now t) i ⌝ }
     requires { ⌜ Within (now t) (k + 1) ⌝ }
-    requires { ⌜ p .0 ≤ 64 ⌝ }
+    requires { ⌜ p .0 ≤ positions ⌝ }
     ensures { λ r. ⌜ r ≡ (bit k q && supportsAt (tableIn (now (t .entry))) i (p .0) (k + 1)) ⌝ }
 {
     if (q >> k) % 2 == 1 {
@@ -71,7 +71,7 @@ fn member_supports(t: &[u8], i: usize, q: u16, p: Position, k: usize) -> bool
 pub fn supporters(t: &[u8], i: usize, q: u16, p: Position) -> u16
     requires { ⌜ Held (now t) ⌝ }
     requires { ⌜ Within (now t) i ⌝ }
-    requires { ⌜ p .0 ≤ 64 ⌝ }
+    requires { ⌜ p .0 ≤ positions ⌝ }
     ensures { λ r. ⌜ r ≡ passing (count (tableIn (now (t .entry)))) (supportsAt (tableIn (now (t .entry))) i (p .0)) q ⌝ }
 {
     let n = count_of(t) as usize;

@@ -8,7 +8,7 @@ use lib.Seq.{length-take-le, take-all, take-at}
 use borrow.Author.Tests.{lt-ltb, le-ltb, eq-eqb, ne-eqb}
 use Rattle.algorithm.specs.Run.{pieceCount, runTo, run}
 use Rattle.algorithm.proofs.Runs.{replies-count}
-use Rattle.table.specs.Layout.{tableIn}
+use Rattle.table.specs.Layout.{tableBytes, tableIn}
 use Rattle.table.proofs.HeldLaws.{its-table}
 use Rattle.table.proofs.StoredLaws.{stored-table}
 use Rattle.engine.specs.Engine.{played, Played}
@@ -56,7 +56,7 @@ module _ (b b₁ im : List ℕ) (e : ℕ) where
   unfolding inputLines
   too-long-shown h w = rw (lt-ltb 65536 (length im) h) (one-line w .wrote)
 
-  module _ (small : length im ≤ 65536) (z k : ℕ) (slice : List ℕ) (z' : ℕ) (a : ReadAnswer im (replicate 4760 0) z k slice z') where
+  module _ (small : length im ≤ 65536) (z k : ℕ) (slice : List ℕ) (z' : ℕ) (a : ReadAnswer im (replicate tableBytes 0) z k slice z') where
     pub bad-site-shown : (k ≡ 0 → ⊥) → WroteShort 20 b b₁ 0 (badSiteLine k) e → Wrote b b₁ 0 (printed im) e
     unfolding inputLines
     bad-site-shown h w =
@@ -67,8 +67,8 @@ module _ (b b₁ im : List ℕ) (e : ℕ) where
     unfolding inputLines
     site-shown h w =
         let read : siteReply im ≡ 0 = sym (a .reply) ∙ h in
-        let end : z' ≡ readEnd im = a .end ∙ read-upto im (replicate 4760 0) k (a .reply) h z in
+        let end : z' ≡ readEnd im = a .end ∙ read-upto im (replicate tableBytes 0) k (a .reply) h z in
         let rest : take (length im - z') (drop z' im) ≡ drop z' im = take-all (length im - z') (drop z' im) (omega (arith, length-drop z' im)) in
         let table : tableIn slice ≡ readTable im =
-        ap tableIn (a .bytes ∙ read-into im (replicate 4760 0) k (a .reply) h) ∙ stored-table (readTable im) (not-broken im (replicate 4760 0) read) in
+        ap tableIn (a .bytes ∙ read-into im (replicate tableBytes 0) k (a .reply) h) ∙ stored-table (readTable im) (not-broken im (replicate tableBytes 0) read) in
         rw (le-ltb 65536 (length im) small, eq-eqb (siteReply im) 0 read, ← end) (rw (rest, table) at w)

@@ -11,6 +11,7 @@ use borrow.Author.Tests.{le-ltb, eq-eqb}
 use Rattle.members.specs.Members.{mask}
 use Rattle.algorithm.specs.Table.{Table, nth, every, trimmed, broken, fresh}
 use Rattle.words.specs.Words.{bytes}
+use Rattle.table.specs.Layout.{tableBytes}
 use Rattle.image.specs.Image.{contents, image}
 use Rattle.image.proofs.ReadBack.{end-back}
 use Rattle.image.proofs.Theorems.{read-back}
@@ -23,8 +24,8 @@ use Rattle.rehearsal.specs.Printed.{inputLines}
 pub image-lines : (t : Table) (p : List ℕ) → broken t ≡ false → length (image t ++ p) ≤ 65536 → inputLines (image t ++ p) ≡ playedLines t p
 unfolding inputLines
 image-lines t p h small =
-    let slice : List ℕ = replicate 4760 0 in
-    let (read, table, _, _) = read-back t p slice 0 h (length-replicate {A = ℕ} 4760 0) in
+    let slice : List ℕ = replicate tableBytes 0 in
+    let (read, table, _, _) = read-back t p slice 0 h (length-replicate {A = ℕ} tableBytes 0) in
     rw (le-ltb 65536 (length (image t ++ p)) small, eq-eqb _ 0 read, table, end-back t h p, drop-at (image t) p (length (image t)) refl)
 
 -- ---- the case that document 01 gives whole, from the bytes of its input to those of its output

@@ -2,6 +2,7 @@
 ghost use mathlib.Core.List.{[], _∷_, _++_};
 ghost use Prim.Native.Nat.{_+_, _≤_};
 ghost use lib.ListN.{length, take};
+ghost use Rattle.algorithm.specs.Table.{positions};
 ghost use Rattle.table.specs.Layout.{tableIn};
 ghost use Rattle.table.specs.Slice.{Held};
 ghost use Rattle.texts.specs.Texts.{text, field, fields};
@@ -64,7 +65,7 @@ pub(crate) fn put_figures(buffer: &mut [u8], at: usize, a: Row) -> usize
 // The first n marks.
 pub(crate) fn put_marks(buffer: &mut [u8], at: usize, t: &[u8], n: u8) -> usize
     requires { ⌜ Held (now t) ⌝ }
-    requires { ⌜ n ≤ 64 ⌝ }
+    requires { ⌜ n ≤ positions ⌝ }
     requires { ⌜ at + 704 ≤ length (now buffer) ⌝ }
     ensures { λ e. ⌜ WroteShort 704 (now (buffer .entry)) (now (buffer .exit)) at (fields (take n (tableIn (now (t .entry)) .marks))) e ⌝ }
 {

@@ -10,7 +10,7 @@ use Rattle.algorithm.specs.Refusals.{known}
 use Rattle.algorithm.proofs.Lists.{length-replace}
 use Rattle.algorithm.proofs.Seen.{known-range}
 use Rattle.words.specs.Words.{words, Put}
-use Rattle.table.specs.Layout.{row, layout, tableOf, tableIn}
+use Rattle.table.specs.Layout.{tableBytes, row, layout, tableOf, tableIn}
 use Rattle.table.specs.Slice.{Roomy, AllRoomy, Holds, Held, Became, Within}
 use Rattle.table.proofs.ListLaws.{replace-nth, nth-replaced, replace-replace, get-mid, set-mid}
 use Rattle.table.proofs.LayoutLaws.{Framed, server-in, table-back}
@@ -51,12 +51,12 @@ its-room {b} i h = roomy-at (tableIn b .servers) i (h .shaped .roomy)
 
 -- the slice has, between what is around a row, the words r
 pub record Open {A : Type 0} (b : List ℕ) {at : ℕ} {part whole : A → List ℕ} (f : Framed at part whole) (r : List ℕ) : Type 0 where
-  pub sized : length b ≡ 4760
+  pub sized : length b ≡ tableBytes
   pub full : length r ≡ 70
   pub laid : words b ≡ f .before ++ (r ++ f .after)
 
 module _ {A : Type 0} {at : ℕ} {part whole : A → List ℕ} (f : Framed at part whole) where
-  pub opened : (b : List ℕ) (a : A) → length b ≡ 4760 → words b ≡ whole a → Open b f (part a)
+  pub opened : (b : List ℕ) (a : A) → length b ≡ tableBytes → words b ≡ whole a → Open b f (part a)
   opened b a z e = record { sized = z; full = f .full a; laid = e ∙ f .around a }
 
   -- one word of the row read, and one put

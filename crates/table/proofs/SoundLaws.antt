@@ -10,10 +10,9 @@ use lib.ListN.{length, replicate}
 use lib.Pow.{pow-mono}
 use Rattle.members.specs.Members.{within}
 use Rattle.members.proofs.Tests.{Passes, both, less}
-use Rattle.algorithm.specs.Table.{every, Log, Server, Table, count, primary, secondary, withLog, ceiling, soundConfig, soundEntry, soundServer}
+use Rattle.algorithm.specs.Table.{every, between, Log, Server, Table, count, primary, secondary, withLog, ceiling, soundConfig, soundEntry, soundServer}
 use Rattle.algorithm.proofs.Lists.{every-cons}
 use Rattle.algorithm.proofs.Sound.{SoundServer, SoundTable, server-sound}
-use Rattle.words.specs.Words.{between}
 use Rattle.words.proofs.WordLaws.{FourBytes, words-append, words-zeros, words-between}
 use Rattle.table.specs.Layout.{padded, terms, row, head, rows, layout}
 use Rattle.table.specs.Slice.{AllRoomy, Shaped}

@@ -9,13 +9,13 @@ use Rattle.algorithm.specs.Table.{Table, broken}
 use Rattle.algorithm.proofs.Sound.{SoundTable, table-sound}
 use Rattle.words.specs.Words.{bytes}
 use Rattle.words.proofs.WordLaws.{length-bytes, bytes-words, words-bytes}
-use Rattle.table.specs.Layout.{layout, stored, tableIn}
+use Rattle.table.specs.Layout.{tableBytes, layout, stored, tableIn}
 use Rattle.table.specs.Slice.{Shaped, Holds}
 use Rattle.table.proofs.LayoutLaws.{length-layout}
 use Rattle.table.proofs.HeldLaws.{its-table}
 use Rattle.table.proofs.SoundLaws.{sound-shaped, words-layout}
 
-pub stored-length : (t : Table) → length (stored t) ≡ 4760
+pub stored-length : (t : Table) → length (stored t) ≡ tableBytes
 unfolding stored
 stored-length t = omega (arith, length-bytes (layout t), length-layout t)
 

@@ -5,8 +5,18 @@ use mathlib.Core.Bool.{Bool, true, false, not, _&&_}
 use mathlib.Core.List.{List, [], _∷_, _++_, map}
 use lib.Dec.{eqb}
 use lib.ListN.{length, getD, take, drop, replicate}
-use Rattle.algorithm.specs.Table.{Entry, Log, entries, Server, Table, count, broken}
+use Rattle.algorithm.specs.Table.{Entry, Log, entries, Server, Table, count, positions, broken}
 use Rattle.words.specs.Words.{words, bytes}
+
+-- ---- sizes
+
+-- the words of a row: six, and one for each position
+abbrev pub rowWords : ℕ
+rowWords = 70
+
+-- the bytes of a table: 17 rows, four bytes to a word
+abbrev pub tableBytes : ℕ
+tableBytes = 4760
 
 -- ---- from a table to bytes
 
@@ -23,16 +33,16 @@ terms l = map (λ (e : Entry). e .term) l
 -- a row, of one server: its figures, the length of its log, and its log
 abbrev pub row : Server → List ℕ
 row s =
-    s .role ∷ s .term ∷ s .config .set ∷ s .config .version ∷ s .config .term ∷ length (s .log) ∷ padded 64 (terms (s .log))
+    s .role ∷ s .term ∷ s .config .set ∷ s .config .version ∷ s .config .term ∷ length (s .log) ∷ padded positions (terms (s .log))
 
 -- row 0, of n servers and the marks
 abbrev pub head : ℕ → List ℕ → List ℕ
-head n ms = n ∷ 0 ∷ 0 ∷ 0 ∷ 0 ∷ 0 ∷ padded 64 ms
+head n ms = n ∷ 0 ∷ 0 ∷ 0 ∷ 0 ∷ 0 ∷ padded positions ms
 
 -- k rows: those of the servers, then rows of 0
 unfoldable pub rows : ℕ → List Server → List ℕ
 rows zero ss = []
-rows (suc k) [] = replicate 70 0 ++ rows k []
+rows (suc k) [] = replicate rowWords 0 ++ rows k []
 rows (suc k) (s ∷ ss) = row s ++ rows k ss
 
 -- the words of a table
@@ -58,11 +68,11 @@ serverOf d =
 -- the servers of the first k rows
 unfoldable pub serversOf : ℕ → List ℕ → List Server
 serversOf zero d = []
-serversOf (suc k) d = serverOf d ∷ serversOf k (drop 70 d)
+serversOf (suc k) d = serverOf d ∷ serversOf k (drop rowWords d)
 
 -- the table that these words lay out
 unfoldable pub tableOf : List ℕ → Table
-tableOf c = record { servers = serversOf (getD c 0 0) (drop 70 c); marks = take 64 (drop 6 c) }
+tableOf c = record { servers = serversOf (getD c 0 0) (drop rowWords c); marks = take positions (drop 6 c) }
 
 -- the table in a slice
 unfoldable pub tableIn : List ℕ → Table
@@ -79,4 +89,4 @@ same (x ∷ l) (y ∷ m) = eqb x y && same l m
 
 -- the slice has the length of a table, is the bytes of the table in it, and that table breaks no rule
 unfoldable pub whole : List ℕ → Bool
-whole b = eqb (length b) 4760 && same b (stored (tableIn b)) && not (broken (tableIn b))
+whole b = eqb (length b) tableBytes && same b (stored (tableIn b)) && not (broken (tableIn b))

@@ -6,12 +6,12 @@ use lib.ListN.{length, replicate}
 use Rattle.algorithm.specs.Table.{Server, Table, count, absent, positions}
 use Rattle.algorithm.specs.Comparisons.{last}
 use Rattle.words.specs.Words.{words}
-use Rattle.table.specs.Layout.{layout, tableIn}
+use Rattle.table.specs.Layout.{tableBytes, layout, tableIn}
 use Rattle.table.specs.declared.rows.Row.{Row}
 
 -- a log of n entries has room in a row, and the set m in 16 bits
 pub record Room (n m : ℕ) : Type 0 where
-  pub short : n ≤ 64
+  pub short : n ≤ positions
   pub small : m < 65536
 
 -- a server that has room in a row
@@ -27,11 +27,11 @@ AllRoomy (s ∷ ss) = Roomy s × AllRoomy ss
 pub record Shaped (t : Table) : Type 0 where
   pub few : count t ≤ 16
   pub roomy : AllRoomy (t .servers)
-  pub marked : length (t .marks) ≡ 64
+  pub marked : length (t .marks) ≡ positions
 
 -- the slice holds the table
 pub record Holds (b : List ℕ) (t : Table) : Type 0 where
-  pub sized : length b ≡ 4760
+  pub sized : length b ≡ tableBytes
   pub laid : words b ≡ layout t
   pub shaped : Shaped t
 

@@ -2,9 +2,9 @@
 ghost use mathlib.Core.Path.{_≡_};
 ghost use Prim.Native.Nat.{_≤_, _<_};
 ghost use lib.ListN.{length, getD};
-ghost use Rattle.algorithm.specs.Table.{count, server, termAt, mark, changed, withMark, withRole, withTerm, withConfig, withEntry, withoutLast};
+ghost use Rattle.algorithm.specs.Table.{count, server, termAt, mark, changed, withMark, withRole, withTerm, withConfig, withEntry, withoutLast, positions};
 ghost use Rattle.algorithm.specs.Comparisons.{last};
-ghost use Rattle.table.specs.Layout.{row, tableIn};
+ghost use Rattle.table.specs.Layout.{rowWords, row, tableIn};
 ghost use Rattle.table.specs.Slice.{Held, Became, Within, seen};
 use algorithm::Position;
 use algorithm::Term;
@@ -53,7 +53,7 @@ pub fn count_of(t: &[u8]) -> u8
 fn field(t: &[u8], s: usize, f: usize) -> u32
     requires { ⌜ Held (now t) ⌝ }
     requires { ⌜ Within (now t) s ⌝ }
-    requires { ⌜ f < 70 ⌝ }
+    requires { ⌜ f < rowWords ⌝ }
     ensures { λ r. ⌜ r ≡ getD (row (server (tableIn (now (t .entry))) s)) f 0 ⌝ }
 {
     word(t, ROW * s + f)
@@ -103,7 +103,7 @@ pub fn config_of(t: &[u8], s: usize) -> Term
 pub fn length_of(t: &[u8], s: usize) -> Position
     requires { ⌜ Held (now t) ⌝ }
     requires { ⌜ Within (now t) s ⌝ }
-    ensures { λ r. ⌜ (r .0 ≡ length (server (tableIn (now (t .entry))) s .log)) × (r .0 ≤ 64) ⌝ }
+    ensures { λ r. ⌜ (r .0 ≡ length (server (tableIn (now (t .entry))) s .log)) × (r .0 ≤ positions) ⌝ }
 {
     Position(field(t, s, LENGTH) as u8)
 }
@@ -138,7 +138,7 @@ pub fn last_of(t: &[u8], s: usize) -> Term
 pub fn entry_of(t: &[u8], s: usize, p: Position) -> Term
     requires { ⌜ Held (now t) ⌝ }
     requires { ⌜ Within (now t) s ⌝ }
-    requires { ⌜ (1 ≤ p .0) × (p .0 ≤ 64) ⌝ }
+    requires { ⌜ (1 ≤ p .0) × (p .0 ≤ positions) ⌝ }
     ensures { λ r. ⌜ r .0 ≡ termAt (server (tableIn (now (t .entry))) s .log) (p .0) ⌝ }
 {
     Term(field(t, s, LENGTH + p.0 as usize))
@@ -147,7 +147,7 @@ pub fn entry_of(t: &[u8], s: usize, p: Position) -> Term
 // The term committed at a position, or 0.
 pub fn mark_of(t: &[u8], p: Position) -> Term
     requires { ⌜ Held (now t) ⌝ }
-    requires { ⌜ (1 ≤ p .0) × (p .0 ≤ 64) ⌝ }
+    requires { ⌜ (1 ≤ p .0) × (p .0 ≤ positions) ⌝ }
     ensures { λ r. ⌜ r .0 ≡ mark (tableIn (now (t .entry))) (p .0) ⌝ }
 {
     Term(word(t, LENGTH + p.0 as usize))
@@ -184,7 +184,7 @@ pub fn put_config(t: &mut [u8], s: usize, set: u16, version: Version, config: Te
 pub fn push(t: &mut [u8], s: usize, v: Term)
     requires { ⌜ Held (now t) ⌝ }
     requires { ⌜ Within (now t) s ⌝ }
-    requires { ⌜ length (server (tableIn (now t)) s .log) < 64 ⌝ }
+    requires { ⌜ length (server (tableIn (now t)) s .log) < positions ⌝ }
     ensures { λ _. ⌜ Became (now (t .entry)) (now (t .exit)) (changed (tableIn (now (t .entry))) s (withEntry (v .0))) ⌝ }
 {
     let n = length_of(t, s).0 as u32 + 1;
@@ -208,7 +208,7 @@ pub fn pop(t: &mut [u8], s: usize)
 
 pub fn put_mark(t: &mut [u8], p: Position, v: Term)
     requires { ⌜ Held (now t) ⌝ }
-    requires { ⌜ (1 ≤ p .0) × (p .0 ≤ 64) ⌝ }
+    requires { ⌜ (1 ≤ p .0) × (p .0 ≤ positions) ⌝ }
     ensures { λ _. ⌜ Became (now (t .entry)) (now (t .exit)) (withMark (tableIn (now (t .entry))) (p .0) (v .0)) ⌝ }
 {
     put(t, LENGTH + p.0 as usize, v.0);

@@ -11,7 +11,7 @@ use Rattle.members.proofs.Tests.{Passes, together, is-equal}
 use Rattle.algorithm.proofs.Sound.{SoundTable, table-sound, sound-table}
 use Rattle.words.specs.Words.{words, bytes}
 use Rattle.words.proofs.WordLaws.{length-words, bytes-words}
-use Rattle.table.specs.Layout.{layout, stored, tableOf, tableIn, same, whole}
+use Rattle.table.specs.Layout.{tableBytes, layout, stored, tableOf, tableIn, same, whole}
 use Rattle.table.specs.Slice.{Held}
 use Rattle.table.proofs.BoolLaws.{is-true}
 use Rattle.table.proofs.RowLaws.{count-read}
@@ -26,18 +26,18 @@ tell-same true false f g = absurd (f (record { yes = tt }) .yes)
 tell-same false true f g = absurd (g (record { yes = tt }) .yes)
 tell-same false false f g = refl
 
-pub other-length : (b : List ℕ) → (length b ≡ 4760 → ⊥) → false ≡ whole b
+pub other-length : (b : List ℕ) → (length b ≡ tableBytes → ⊥) → false ≡ whole b
 unfolding whole
-other-length b h = rw (ne-eqb (length b) 4760 h)
+other-length b h = rw (ne-eqb (length b) tableBytes h)
 
 -- bytes whose words are laid out as the table in them, a sound one, are whole
-whole-table : (b : List ℕ) → length b ≡ 4760 → bytes (words b) ≡ b → layout (tableOf (words b)) ≡ words b → SoundTable (tableOf (words b))
+whole-table : (b : List ℕ) → length b ≡ tableBytes → bytes (words b) ≡ b → layout (tableOf (words b)) ≡ words b → SoundTable (tableOf (words b))
     → Passes (whole b)
 unfolding whole stored tableIn
 whole-table b sized e laid s =
     let mine : b ≡ stored (tableIn b) = sym e ∙ ap bytes (sym laid) in
-    together {a = eqb (length b) 4760 && same b (stored (tableIn b))}
-    (together {a = eqb (length b) 4760} (is-equal sized) (rw (← mine) (same-self b)))
+    together {a = eqb (length b) tableBytes && same b (stored (tableIn b))}
+    (together {a = eqb (length b) tableBytes} (is-equal sized) (rw (← mine) (same-self b)))
     (record { yes = sound-table s .no })
 
 -- a whole slice holds a table that breaks no rule
@@ -64,7 +64,7 @@ module _ (b : List ℕ) (n : ℕ) (first : n ≡ getD (words b) 0 0) where
   pub too-many : 16 < n → false ≡ whole b
   too-many l = tell-same false (whole b) (λ h. absurd (h .yes)) (λ h. absurd (omega (arith, counted h)))
 
-  pub answer : (r : Bool) → ((i : ℕ) → getD b i 0 < 256) → length b ≡ 4760 → (n ≡ 0 → ⊥) → n ≤ 16 → r ≡ soundWords n (words b) → r ≡ whole b
+  pub answer : (r : Bool) → ((i : ℕ) → getD b i 0 < 256) → length b ≡ tableBytes → (n ≡ 0 → ⊥) → n ≤ 16 → r ≡ soundWords n (words b) → r ≡ whole b
   answer r bytewise sized some few e = e ∙ tell-same (soundWords n (words b)) (whole b) whole-by by-whole
     where
       size : length (words b) ≡ 1190

@@ -7,9 +7,9 @@ use mathlib.Core.List.{List, []}
 use lib.ListN.{getD, drop}
 use lib.Seq.{getD-drop, drop-drop}
 use borrow.Author.Tests.{le-leb, lt-leb}
-use Rattle.algorithm.specs.Table.{every, withLog, ceiling, soundServer}
+use Rattle.algorithm.specs.Table.{every, between, withLog, ceiling, soundServer}
 use Rattle.figures.specs.Figures.{figured}
-use Rattle.words.specs.Words.{part, between}
+use Rattle.words.specs.Words.{part}
 use Rattle.table.specs.Layout.{serverOf}
 use Rattle.whole.specs.Check.{soundRow, soundRows, soundWords}
 

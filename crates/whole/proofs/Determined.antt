@@ -8,7 +8,7 @@ use lib.ListN.{length}
 use borrow.Author.Tests.{not-true, eq-eqb}
 use Rattle.members.proofs.Tests.{Passes, both, together, equal, is-equal}
 use Rattle.algorithm.specs.Table.{Table, broken}
-use Rattle.table.specs.Layout.{stored, tableIn, same, whole}
+use Rattle.table.specs.Layout.{tableBytes, stored, tableIn, same, whole}
 use Rattle.table.specs.Slice.{Holds, Held}
 use Rattle.table.proofs.BoolLaws.{is-true}
 use Rattle.table.proofs.StoredLaws.{stored-length, stored-holds, stored-table}
@@ -33,17 +33,17 @@ same-self (x ∷ l) = together {a = eqb x x} (is-equal {a = x} refl) (same-self 
 pub stored-whole : (t : Table) → broken t ≡ false → whole (stored t) ≡ true
 unfolding whole
 stored-whole t h =
-    rw (stored-table t h, eq-eqb (length (stored t)) 4760 (stored-length t), is-true (same (stored t) (stored t)) (same-self (stored t) .yes), h)
+    rw (stored-table t h, eq-eqb (length (stored t)) tableBytes (stored-length t), is-true (same (stored t) (stored t)) (same-self (stored t) .yes), h)
 
 -- ---- from a slice to its table
 
 module _ (b : List ℕ) (h : whole b ≡ true) where
-  found : (length b ≡ 4760) × (b ≡ stored (tableIn b)) × (broken (tableIn b) ≡ false)
+  found : (length b ≡ tableBytes) × (b ≡ stored (tableIn b)) × (broken (tableIn b) ≡ false)
   unfolding whole
   found =
       let passed : Passes (whole b) = record { yes = rw h tt } in
-      let (laid, sound) = both {a = eqb (length b) 4760 && same b (stored (tableIn b))} passed in
-      let (sized, mine) = both {a = eqb (length b) 4760} laid in
+      let (laid, sound) = both {a = eqb (length b) tableBytes && same b (stored (tableIn b))} passed in
+      let (sized, mine) = both {a = eqb (length b) tableBytes} laid in
       (equal sized, same-equal b (stored (tableIn b)) mine, not-true (broken (tableIn b)) (is-true _ (sound .yes)))
 
   -- a whole slice is the bytes of the table in it

@@ -10,10 +10,10 @@ use lib.Dec.{leb}
 use lib.ListN.{length, getD, take, drop, replicate, length-drop, length-map, take-append-drop}
 use lib.Seq.{drop-drop, drop-at, length-take-le, take-add, take-suc, take-all}
 use Rattle.members.proofs.Tests.{Passes, both, together, at-most, is-at-most}
-use Rattle.algorithm.specs.Table.{every, entries, Server, Table, count, ceiling, soundServer}
+use Rattle.algorithm.specs.Table.{every, between, entries, Server, Table, count, ceiling, soundServer}
 use Rattle.algorithm.proofs.Lists.{every-cons, every-replicate}
 use Rattle.algorithm.proofs.Sound.{SoundTable}
-use Rattle.words.specs.Words.{part, between}
+use Rattle.words.specs.Words.{part}
 use Rattle.table.specs.Layout.{padded, terms, row, head, rows, layout, serverOf, serversOf, tableOf}
 use Rattle.table.proofs.LayoutLaws.{length-row, length-head, length-layout, rows-none, padded-is, log-terms, log-beyond, server-back, marks-back}
 use Rattle.table.proofs.SoundLaws.{server-parts, terms-sound, marks-sound}

@@ -4,28 +4,28 @@ use mathlib.Core.Bool.{Bool, true, _&&_}
 use mathlib.Core.List.{List, []}
 use lib.Dec.{leb}
 use lib.ListN.{getD, drop}
-use Rattle.algorithm.specs.Table.{every, withLog, ceiling, soundServer}
-use Rattle.words.specs.Words.{part, between}
-use Rattle.table.specs.Layout.{serverOf}
+use Rattle.algorithm.specs.Table.{every, between, withLog, ceiling, positions, soundServer}
+use Rattle.words.specs.Words.{part}
+use Rattle.table.specs.Layout.{rowWords, serverOf}
 
 -- d begins with the row of a server of a table of n: its five figures, its log's length, and its entries, 0 beyond the length
 unfoldable pub soundRow : ℕ → List ℕ → Bool
 soundRow n d =
     let k = getD d 5 0 in
-    leb k 64
+    leb k positions
     && soundServer n (withLog [] (serverOf d))
     && every (between 1 ceiling) (part d 6 k)
-    && every (between 0 0) (part d (6 + k) (64 - k))
+    && every (between 0 0) (part d (6 + k) (positions - k))
 
 -- d begins with k such rows
 unfoldable pub soundRows : ℕ → ℕ → List ℕ → Bool
 soundRows zero n d = true
-soundRows (suc k) n d = soundRow n d && soundRows k n (drop 70 d)
+soundRows (suc k) n d = soundRow n d && soundRows k n (drop rowWords d)
 
 -- c is, but for word 0, the words of a table of n servers
 unfoldable pub soundWords : ℕ → List ℕ → Bool
 soundWords n c =
     every (between 0 0) (part c 1 5)
-    && every (between 0 ceiling) (part c 6 64)
-    && soundRows n n (drop 70 c)
-    && every (between 0 0) (part c (70 * n + 70) (1120 - 70 * n))
+    && every (between 0 ceiling) (part c 6 positions)
+    && soundRows n n (drop rowWords c)
+    && every (between 0 0) (part c (rowWords * n + rowWords) (rowWords * 16 - rowWords * n))

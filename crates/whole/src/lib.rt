@@ -5,7 +5,7 @@ ghost use Prim.Native.Nat.{_*_, _≤_};
 ghost use lib.ListN.{length, drop};
 ghost use Rattle.algorithm.specs.Table.{withLog, soundServer};
 ghost use Rattle.words.specs.Words.{words};
-ghost use Rattle.table.specs.Layout.{serverOf, whole};
+ghost use Rattle.table.specs.Layout.{tableBytes, serverOf, whole};
 ghost use Rattle.whole.specs.Check.{soundRow, soundRows, soundWords};
 use algorithm::CEILING;
 use algorithm::Term;
@@ -28,7 +28,7 @@ const SERVERS: usize = 1120;
 
 // The figures of server s of n are sound.
 fn row_figures_sound(t: &[u8], n: u8, s: usize) -> bool
-    requires { ⌜ (length (now t) ≡ 4760) × (s ≤ 16) ⌝ }
+    requires { ⌜ (length (now t) ≡ tableBytes) × (s ≤ 16) ⌝ }
     ensures { λ r. ⌜ r ≡ soundServer n (withLog [] (serverOf (drop (70 * s) (words (now (t .entry)))))) ⌝ }
 {
     let at = ROW * s;
@@ -41,7 +41,7 @@ fn row_figures_sound(t: &[u8], n: u8, s: usize) -> bool
 }
 
 fn row_sound(t: &[u8], n: u8, s: usize) -> bool
-    requires { ⌜ (length (now t) ≡ 4760) × (s ≤ 16) ⌝ }
+    requires { ⌜ (length (now t) ≡ tableBytes) × (s ≤ 16) ⌝ }
     ensures { λ r. ⌜ r ≡ soundRow n (drop (70 * s) (words (now (t .entry)))) ⌝ }
 {
     let at = ROW * s;
@@ -57,7 +57,7 @@ fn row_sound(t: &[u8], n: u8, s: usize) -> bool
 }
 
 fn rows_sound(t: &[u8], n: u8) -> bool
-    requires { ⌜ length (now t) ≡ 4760 ⌝ }
+    requires { ⌜ length (now t) ≡ tableBytes ⌝ }
     requires { ⌜ n ≤ 16 ⌝ }
     ensures { λ r. ⌜ r ≡ soundRows n n (drop 70 (words (now (t .entry)))) ⌝ }
 {
@@ -71,7 +71,7 @@ fn rows_sound(t: &[u8], n: u8) -> bool
 }
 
 fn words_sound(t: &[u8], n: u8) -> bool
-    requires { ⌜ length (now t) ≡ 4760 ⌝ }
+    requires { ⌜ length (now t) ≡ tableBytes ⌝ }
     requires { ⌜ n ≤ 16 ⌝ }
     ensures { λ r. ⌜ r ≡ soundWords n (words (now (t .entry))) ⌝ }
 {

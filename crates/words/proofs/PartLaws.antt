@@ -7,8 +7,8 @@ use mathlib.Core.Bool.{Bool, true, _&&_, and-true, and-assoc}
 use mathlib.Core.List.{List, [], _∷_}
 use lib.ListN.{length, getD, take, drop, length-drop}
 use lib.Seq.{getD-drop}
-use Rattle.algorithm.specs.Table.{every}
-use Rattle.words.specs.Words.{words, part, between}
+use Rattle.algorithm.specs.Table.{every, between}
+use Rattle.words.specs.Words.{words, part}
 use Rattle.words.proofs.WordLaws.{length-words}
 
 every-more : (p : ℕ → Bool) (l : List ℕ) (i : ℕ) → i < length l → every p (take (suc i) l) ≡ (every p (take i l) && p (getD l i 0))

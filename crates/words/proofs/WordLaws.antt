@@ -7,9 +7,9 @@ use mathlib.Core.List.{List, [], _∷_, _++_}
 use lib.Dec.{leb}
 use lib.ListN.{length, getD, set, replicate, length-set}
 use Rattle.members.proofs.Tests.{Passes, both, at-most}
-use Rattle.algorithm.specs.Table.{every, ceiling}
+use Rattle.algorithm.specs.Table.{every, between, ceiling}
 use Rattle.algorithm.proofs.Lists.{every-cons}
-use Rattle.words.specs.Words.{wordOf, words, bytes, putWord, Put, between}
+use Rattle.words.specs.Words.{wordOf, words, bytes, putWord, Put}
 
 -- four bytes further on
 past : (k i : ℕ) → 4 * suc k + i ≡ suc (suc (suc (suc (4 * k + i))))

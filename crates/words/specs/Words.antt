@@ -1,9 +1,7 @@
 -- Numbers of four bytes, low byte first. Assumes nothing.
 use Prim.Native.Nat.{ℕ, _+_, _*_, _/_, _%_}
-use mathlib.Core.Bool.{Bool, _&&_}
 use mathlib.Core.Path.{_≡_}
 use mathlib.Core.List.{List, [], _∷_}
-use lib.Dec.{leb}
 use lib.ListN.{length, take, drop, set}
 
 -- the number of four bytes
@@ -37,7 +35,3 @@ pub record Put (b b' : List ℕ) (k v : ℕ) : Type 0 where
 -- the n words from word k
 abbrev pub part : List ℕ → ℕ → ℕ → List ℕ
 part c k n = take n (drop k c)
-
--- v is from low to high
-abbrev pub between : ℕ → ℕ → ℕ → Bool
-between low high v = leb low v && leb v high

@@ -2,8 +2,8 @@
 ghost use mathlib.Core.Path.{_≡_};
 ghost use Prim.Native.Nat.{_+_, _*_, _≤_};
 ghost use lib.ListN.{length, getD};
-ghost use Rattle.algorithm.specs.Table.{every};
-ghost use Rattle.words.specs.Words.{wordOf, words, Put, part, between};
+ghost use Rattle.algorithm.specs.Table.{every, between};
+ghost use Rattle.words.specs.Words.{wordOf, words, Put, part};
 
 fn joined(a: u8, b: u8, c: u8, d: u8) -> u32
     ensures { λ r. ⌜ r ≡ wordOf a b c d ⌝ }

@@ -9,8 +9,8 @@ use lib.Dec.{leb, eqb}
 use lib.ListN.{length, getD, take, drop, replicate}
 use lib.Seq.{getD-drop}
 use Rattle.members.proofs.Tests.{Passes, both, either, equal, at-most}
-use Rattle.algorithm.specs.Table.{nth, every, ceiling, kept, trimmed}
-use Rattle.words.specs.Words.{words, bytes, between}
+use Rattle.algorithm.specs.Table.{nth, every, between, ceiling, kept, trimmed}
+use Rattle.words.specs.Words.{words, bytes}
 use Rattle.words.proofs.WordLaws.{length-words, bytes-words}
 use Rattle.table.specs.Layout.{padded}
 use Rattle.table.proofs.LayoutLaws.{padded-is}

@@ -10,7 +10,7 @@ use borrow.Author.Tests.{eq-eqb}
 use Rattle.members.proofs.Tests.{refuted}
 use Rattle.algorithm.specs.Table.{every}
 use Rattle.algorithm.proofs.Refused.{first-later}
-use Rattle.table.specs.Layout.{tableIn, whole}
+use Rattle.table.specs.Layout.{tableBytes, tableIn, whole}
 use Rattle.table.proofs.BoolLaws.{is-true}
 use Rattle.table.proofs.StoredLaws.{stored-table}
 use Rattle.whole.proofs.Determined.{whole-stored, whole-sound}
@@ -50,7 +50,7 @@ module _ (b buffer : List ℕ) (e k : ℕ) (buffer' : List ℕ) (e' : ℕ) (w : 
 
 -- Reading what was written, whatever bytes follow it, gives the table, byte for byte, and the end where its image ends.
 pub read-saved : {b buffer buffer' slice slice' : List ℕ} {e e' z z' r : ℕ} → WriteAnswer b buffer e 0 buffer' e' → (rest : List ℕ)
-    → length slice ≡ 4760 → ReadAnswer (take e' buffer' ++ rest) slice z r slice' z' → (r ≡ 0) × (slice' ≡ b) × (z' ≡ e')
+    → length slice ≡ tableBytes → ReadAnswer (take e' buffer' ++ rest) slice z r slice' z' → (r ≡ 0) × (slice' ≡ b) × (z' ≡ e')
 read-saved {b} {buffer} {buffer'} {slice} {e' = e'} {z = z} w rest sized a =
     let yes = was-whole b buffer (sym (w .reply)) in
     let done = eq-eqb (writeReply b buffer) 0 (sym (w .reply)) in
@@ -64,7 +64,7 @@ read-saved {b} {buffer} {buffer'} {slice} {e' = e'} {z = z} w rest sized a =
     reader.unique a read
 
 -- So does reading the buffer itself.
-pub read-written : {b buffer buffer' slice slice' : List ℕ} {e e' z z' r : ℕ} → WriteAnswer b buffer e 0 buffer' e' → length slice ≡ 4760
+pub read-written : {b buffer buffer' slice slice' : List ℕ} {e e' z z' r : ℕ} → WriteAnswer b buffer e 0 buffer' e' → length slice ≡ tableBytes
     → ReadAnswer buffer' slice z r slice' z' → (r ≡ 0) × (slice' ≡ b) × (z' ≡ e')
 read-written {buffer' = buffer'} {slice} {slice'} {e' = e'} {z} {z'} {r} w sized a =
     let all : ReadAnswer (take e' buffer' ++ drop e' buffer') slice z r slice' z' = rw (take-append-drop e' buffer') a in

@@ -1,12 +1,12 @@
 -- The writer: its refusals, and what it gives where none holds. Assumes nothing.
 use Prim.Native.Nat.{ℕ}
-use mathlib.Core.Bool.{cond, not}
+use mathlib.Core.Bool.{not}
 use mathlib.Core.Path.{_≡_}
 use mathlib.Core.List.{List, [], _∷_, _++_}
-use lib.Dec.{ltb, eqb}
+use lib.Dec.{ltb}
 use lib.ListN.{length, drop}
 use Rattle.algorithm.specs.Actions.{Refusal, refuse}
-use Rattle.algorithm.specs.Refusals.{first}
+use Rattle.algorithm.specs.Refusals.{first, unlessRefused}
 use Rattle.table.specs.Layout.{tableIn, whole}
 use Rattle.image.specs.Image.{image}
 
@@ -22,17 +22,13 @@ writerRefusals slice buffer = refuse 1 (not (whole slice)) ∷ refuse 35 (ltb (l
 unfoldable pub writeReply : List ℕ → List ℕ → ℕ
 writeReply slice buffer = first (writerRefusals slice buffer)
 
--- a where the image is written, and b where it is refused
-abbrev pub ifWritten : {A : Type 0} → List ℕ → List ℕ → A → A → A
-ifWritten slice buffer a b = cond (eqb (writeReply slice buffer) 0) a b
-
 -- the buffer afterwards: it begins with the image and is as it was behind it; refused, it is as it was
 abbrev pub writeBytes : List ℕ → List ℕ → List ℕ
-writeBytes slice buffer = ifWritten slice buffer (imageOf slice ++ drop (length (imageOf slice)) buffer) buffer
+writeBytes slice buffer = unlessRefused (writeReply slice buffer) (imageOf slice ++ drop (length (imageOf slice)) buffer) buffer
 
 -- the end afterwards, likewise
 abbrev pub endAfterWrite : List ℕ → List ℕ → ℕ → ℕ
-endAfterWrite slice buffer e = ifWritten slice buffer (length (imageOf slice)) e
+endAfterWrite slice buffer e = unlessRefused (writeReply slice buffer) (length (imageOf slice)) e
 
 -- what is answered to a table's slice, a buffer and an end: the number, the buffer and the end afterwards
 pub record WriteAnswer (slice buffer : List ℕ) (e r : ℕ) (buffer' : List ℕ) (e' : ℕ) : Type 0 where
