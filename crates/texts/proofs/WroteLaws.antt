@@ -1,11 +1,11 @@
--- Laws of writing at a place of a buffer: nothing, a byte, one thing behind another. Assumes nothing.
-use Prim.Native.Nat.{ℕ, _+_, _≤_, _<_}
+-- Laws of writing at a place of a buffer: nothing, a byte, one thing behind another, a part of the buffer. Assumes nothing.
+use Prim.Native.Nat.{ℕ, _+_, _-_, _≤_, _<_}
 use native.Mathlib.Numerals.{add-one}
 use native.Mathlib.Omega.{arith}
 use mathlib.Core.Path.{_≡_, ap, sym, _∙_}
-use mathlib.Core.List.{List, [], _∷_, _++_, append-assoc}
-use lib.ListN.{length, getD, take, drop, set, length-append, length-drop, take-append-drop}
-use lib.Seq.{length-take-le, take-all, take-at, take-suc, drop-drop, drop-append-add, set-split}
+use mathlib.Core.List.{List, [], _∷_, _++_, append-assoc, append-nil}
+use lib.ListN.{length, take, drop, set, length-append, length-drop, take-append-drop}
+use lib.Seq.{length-take-le, take-all, take-at, drop-drop, drop-length, drop-append-add, set-split}
 use Rattle.texts.specs.Buffer.{Wrote}
 
 -- ---- at one place
@@ -51,15 +51,39 @@ module _ {b b₁ : List ℕ} {at e : ℕ} {l : List ℕ} (w : Wrote b b₁ at l 
         bytes = v .bytes ∙ rw (before, v .end, behind (length m)) (simp append-assoc);
       }
 
--- ---- a word, byte by byte
+-- ---- in a part of the buffer, `&mut buffer[at..]`
 
-module _ (b b₁ w : List ℕ) (at i e : ℕ) where
-  pub wrote-more : (b₂ : List ℕ) (f : ℕ) → i < length w → Wrote b b₁ at (take i w) e → Wrote b₁ b₂ e (getD w i 0 ∷ []) f
-      → Wrote b b₂ at (take (i + 1) w) f
-  wrote-more b₂ f h u v = rw (add-one, take-suc w i 0) (then u v)
+module _ (b : List ℕ) (at : ℕ) (h : at ≤ length b) where
+  pub part : take (length b - at) (drop at b) ≡ drop at b
+  part = take-all (length b - at) (drop at b) (omega (arith, length-drop at b))
 
-  pub wrote-all : length w ≤ i → Wrote b b₁ at (take i w) e → Wrote b b₁ at w e
-  wrote-all h u = rw (take-all i w h) at u
+  none : drop (length b - at) (drop at b) ≡ []
+  none =
+      let all : at + (length b - at) ≡ length b = omega arith in
+      drop-drop (length b - at) at b ∙ rw (all, drop-length b)
+
+  -- what is written at the start of a part is written where the part starts
+  pub part-wrote : (ys l : List ℕ) (r : ℕ) → Wrote (take (length b - at) (drop at b)) ys 0 l r
+      → Wrote b (take at b ++ (ys ++ drop (length b - at) (drop at b))) at l (at + r)
+  part-wrote ys l r v =
+      let w : Wrote (drop at b) ys 0 l r = rw part at v in
+      record {
+        end = omega (arith, w .end);
+        room = omega (arith, w .room, length-drop at b);
+        bytes = rw (none, append-nil ys, w .bytes, drop-drop r at b);
+      }
+
+-- a word copied to the start of a part
+pub copied : (b ys w : List ℕ) (at r : ℕ) → at + length w ≤ length b → r ≡ length w
+    → ys ≡ take (length w) w ++ drop (length w) (take (length b - at) (drop at b))
+    → Wrote b (take at b ++ (ys ++ drop (length b - at) (drop at b))) at w (at + r)
+copied b ys w at r h e f =
+    part-wrote b at (omega arith) ys w r
+    (record {
+      end = omega arith;
+      room = rw (part b at (omega arith)) (omega (arith, length-drop at b));
+      bytes = f ∙ rw (take-all (length w) w (omega arith), e);
+    })
 
 -- ---- what a caller that lends `&buffer[..e]` is asked for
 

@@ -4,6 +4,7 @@ ghost use Prim.Native.Nat.{_+_, _≤_, _<_};
 ghost use lib.ListN.{length};
 ghost use Rattle.texts.specs.Texts.{decimal, field};
 ghost use Rattle.texts.specs.Buffer.{Wrote, WroteShort};
+use bytes::copy;
 
 pub fn put_byte(buffer: &mut [u8], at: usize, x: u8) -> usize
     requires { ⌜ at < length (now buffer) ⌝ }
@@ -17,13 +18,7 @@ pub fn put_word(buffer: &mut [u8], at: usize, word: &[u8]) -> usize
     requires { ⌜ at + length (now word) ≤ length (now buffer) ⌝ }
     ensures { λ r. ⌜ Wrote (now (buffer .entry)) (now (buffer .exit)) at (now (word .entry)) r ⌝ }
 {
-    let mut end = at;
-    let mut i = 0;
-    while i < word.len() {
-        end = put_byte(buffer, end, word[i]);
-        i += 1;
-    }
-    end
+    at + copy(word, &mut buffer[at..])
 }
 
 fn put_digit(buffer: &mut [u8], at: usize, d: u32) -> usize

@@ -6,11 +6,11 @@ use native.Mathlib.Omega.{arith}
 use mathlib.Core.Path.{_≡_, refl, ap, sym, _∙_}
 use mathlib.Core.List.{List, [], _∷_, _++_, append-assoc, append-nil, flatten}
 use lib.ListN.{length, getD, take, drop, length-append, length-drop, length-map}
-use lib.Seq.{take-all, drop-drop, drop-length}
+use lib.Seq.{take-all}
 use Rattle.algorithm.specs.Table.{Table, absent, count}
 use Rattle.table.specs.Layout.{tableIn}
 use Rattle.texts.specs.Buffer.{Wrote}
-use Rattle.texts.proofs.WroteLaws.{wrote-none, sized, then}
+use Rattle.texts.proofs.WroteLaws.{wrote-none, sized, then, part, part-wrote}
 use Rattle.contents.specs.Contents.{firstBody}
 use Rattle.image.specs.Image.{half, opening, serverBody, bodies, contents, image}
 use Rattle.image.proofs.ImageLaws.{length-contents}
@@ -113,26 +113,6 @@ module _ (t : Table) (b : List ℕ) (from : ℕ) where
     entered-all l m = rw (take-all e (bodies t) (omega (arith, many t))) at (g .wrote)
 
 -- ---- the bodies
-
--- what is written at the start of a part is written where the part starts
-module _ (b : List ℕ) (at : ℕ) (h : at ≤ length b) where
-  part : take (length b - at) (drop at b) ≡ drop at b
-  part = take-all (length b - at) (drop at b) (omega (arith, length-drop at b))
-
-  none : drop (length b - at) (drop at b) ≡ []
-  none =
-      let all : at + (length b - at) ≡ length b = omega arith in
-      drop-drop (length b - at) at b ∙ rw (all, drop-length b)
-
-  part-wrote : (ys l : List ℕ) (r : ℕ) → Wrote (take (length b - at) (drop at b)) ys 0 l r
-      → Wrote b (take at b ++ (ys ++ drop (length b - at) (drop at b))) at l (at + r)
-  part-wrote ys l r v =
-      let w : Wrote (drop at b) ys 0 l r = rw part at v in
-      record {
-        end = omega (arith, w .end);
-        room = omega (arith, w .room, length-drop at b);
-        bytes = rw (none, append-nil ys, w .bytes, drop-drop r at b);
-      }
 
 -- the first e bodies are written
 pub record Bodied (t : Table) (b : List ℕ) (from : ℕ) (b' : List ℕ) (e at : ℕ) : Type 0 where
