@@ -27,9 +27,13 @@ iOf bs = byte bs 1
 abbrev pub jOf : List ℕ → ℕ
 jOf bs = byte bs 2
 
+-- a number of two bytes, the low one first
+abbrev pub pairOf : ℕ → ℕ → ℕ
+pairOf low high = low + 256 * high
+
 -- the set
 abbrev pub setOf : List ℕ → ℕ
-setOf bs = byte bs 4 + 256 * byte bs 5
+setOf bs = pairOf (byte bs 4) (byte bs 5)
 
 -- every kind uses i; elect, reconfigure and commit use the set
 abbrev pub usesSet : ℕ → Bool

@@ -6,9 +6,13 @@ use lib.Dec.{ltb, eqb}
 use lib.ListN.{length}
 use Rattle.algorithm.specs.Table.{between, Config, Log, termAt}
 
+-- the numbers a and p come after b and q: by the first, and where these are equal by the second
+abbrev pub later : ℕ → ℕ → ℕ → ℕ → Bool
+later a p b q = ltb b a || eqb a b && ltb q p
+
 -- C is newer than D: by its configuration term, and where these are equal by its version
 abbrev pub newer : Config → Config → Bool
-newer C D = ltb (D .term) (C .term) || eqb (C .term) (D .term) && ltb (D .version) (C .version)
+newer C D = later (C .term) (C .version) (D .term) (D .version)
 
 -- the last entry's term; of an empty log 0
 abbrev pub last : Log → ℕ
@@ -16,7 +20,7 @@ last l = termAt l (length l)
 
 -- l is ahead of m: by its last entry, and where these are equal by its length
 abbrev pub ahead : Log → Log → Bool
-ahead l m = ltb (last m) (last l) || eqb (last l) (last m) && ltb (length m) (length l)
+ahead l m = later (last l) (length l) (last m) (length m)
 
 -- the entry (p, T) is held by l: l has the term T at position p
 abbrev pub held : Log → ℕ → ℕ → Bool

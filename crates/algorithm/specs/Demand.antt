@@ -1,10 +1,9 @@
 -- The words of demand 3: the terms that elections win along a run, and that numbers rise. Assumes nothing.
 use Prim.Native.Nat.{ℕ, _+_, _<_}
-use mathlib.Core.Bool.{cond}
 use mathlib.Core.List.{List, [], _∷_, _++_}
-use lib.Dec.{eqb}
 use Rattle.algorithm.specs.Table.{Table, server}
 use Rattle.algorithm.specs.Actions.{Action, unknown, elect, reconfigure, send, spread, write, fetch, rollBack, commit, actionOf}
+use Rattle.algorithm.specs.Refusals.{unlessRefused}
 use Rattle.algorithm.specs.Run.{step, pieces}
 
 -- the term that an action wins where it is taken: for an election i's term + 1, for any other kind none
@@ -21,7 +20,7 @@ wins t (commit i q) = []
 
 -- the term that a step wins: none where it is refused
 unfoldable pub wonBy : Table → List ℕ → List ℕ
-wonBy t a = cond (eqb (step t a .number) 0) (wins t (actionOf a)) []
+wonBy t a = unlessRefused (step t a .number) (wins t (actionOf a)) []
 
 -- the terms won by actions one after another
 unfoldable pub wonAlong : Table → List (List ℕ) → List ℕ

@@ -1,9 +1,13 @@
 // The vocabulary of the engine: three counters that cannot stand for one another, the set that an action names, and the reply to it.
 ghost use mathlib.Core.Path.{_≡_};
-ghost use Prim.Native.Nat.{_+_, _*_};
 ghost use lib.ListN.{length};
-ghost use Rattle.algorithm.specs.Actions.{setOf};
+ghost use Rattle.algorithm.specs.Actions.{pairOf, setOf};
 ghost use Rattle.algorithm.specs.Reply.{numberOf};
+
+// The two roles.
+pub const SECONDARY: u32 = 0;
+
+pub const PRIMARY: u32 = 1;
 
 // A term: of a server, of a configuration, of an entry, of a mark.
 pub struct Term(pub u32);
@@ -22,7 +26,7 @@ pub const POSITIONS: u8 = 64;
 
 // A number of two bytes, the low one first.
 pub fn pair(low: u8, high: u8) -> u16
-    ensures { λ r. ⌜ r ≡ low + 256 * high ⌝ }
+    ensures { λ r. ⌜ r ≡ pairOf low high ⌝ }
 {
     low as u16 + 256 * (high as u16)
 }

@@ -3,15 +3,15 @@ use Prim.Native.Nat.{ℕ, zero, suc, _+_}
 use mathlib.Core.Bool.{Bool, _&&_, _||_}
 use mathlib.Core.List.{List}
 use lib.Dec.{leb, eqb}
-use lib.ListN.{length, getD, take, drop}
+use lib.ListN.{length, getD, drop}
 use Rattle.algorithm.specs.Table.{nth, every, between, entries, Server, ceiling, positions, soundServer}
-use Rattle.words.specs.Words.{words}
+use Rattle.words.specs.Words.{words, part}
 use Rattle.table.specs.Layout.{padded}
 use Rattle.contents.specs.Contents.{halfAt, countIn, offset, size, allBelow}
 
 -- the part of the input that entry e names
 abbrev pub body : List ℕ → ℕ → List ℕ
-body im e = take (size im e) (drop (offset im e) im)
+body im e = part im (offset im e) (size im e)
 
 -- the marks of a body; positions beyond it have none
 abbrev pub marksIn : List ℕ → List ℕ

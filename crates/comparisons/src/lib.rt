@@ -1,10 +1,10 @@
 // One server's role, and one server beside another: terms, configurations and logs.
 ghost use mathlib.Core.Path.{_≡_};
-ghost use mathlib.Core.Bool.{not, _&&_, _||_};
+ghost use mathlib.Core.Bool.{not};
 ghost use Prim.Native.Nat.{_≤_};
-ghost use lib.Dec.{ltb, eqb};
+ghost use lib.Dec.{eqb};
 ghost use Rattle.algorithm.specs.Table.{server, positions};
-ghost use Rattle.algorithm.specs.Comparisons.{held, prefix};
+ghost use Rattle.algorithm.specs.Comparisons.{later, held, prefix};
 ghost use Rattle.algorithm.specs.Actions.{largerTerm, newerConfig, logAhead, sameConfig, sameTerm, supportsAt, joins as joinsOf};
 ghost use Rattle.table.specs.Layout.{tableIn};
 ghost use Rattle.table.specs.Slice.{Held, Within};
@@ -19,10 +19,6 @@ use table::rows::role_of;
 use table::rows::term_of;
 use table::rows::version_of;
 
-pub const SECONDARY: u32 = 0;
-
-pub const PRIMARY: u32 = 1;
-
 // Server i has another role: refusal 6.
 pub fn lacks_role(t: &[u8], i: usize, role: u32) -> bool
     requires { ⌜ Held (now t) ⌝ }
@@ -33,13 +29,13 @@ pub fn lacks_role(t: &[u8], i: usize, role: u32) -> bool
 }
 
 fn is_newer(a: Term, v: Version, b: Term, w: Version) -> bool
-    ensures { λ r. ⌜ r ≡ (ltb (b .0) (a .0) || eqb (a .0) (b .0) && ltb (w .0) (v .0)) ⌝ }
+    ensures { λ r. ⌜ r ≡ later (a .0) (v .0) (b .0) (w .0) ⌝ }
 {
     (b.0 < a.0) | (a.0 == b.0) & (w.0 < v.0)
 }
 
 fn is_ahead(a: Term, p: Position, b: Term, q: Position) -> bool
-    ensures { λ r. ⌜ r ≡ (ltb (b .0) (a .0) || eqb (a .0) (b .0) && ltb (q .0) (p .0)) ⌝ }
+    ensures { λ r. ⌜ r ≡ later (a .0) (p .0) (b .0) (q .0) ⌝ }
 {
     (b.0 < a.0) | (a.0 == b.0) & (q.0 < p.0)
 }

@@ -5,12 +5,13 @@ use mathlib.Core.List.{List}
 use lib.Dec.{leb, eqb}
 use lib.ListN.{length, getD}
 use Rattle.algorithm.specs.Table.{between, positions, soundCount}
+use Rattle.algorithm.specs.Actions.{pairOf}
 
 -- ---- the opening
 
 -- the number of two bytes at a place
 abbrev pub halfAt : List ℕ → ℕ → ℕ
-halfAt b k = getD b k 0 + 256 * getD b (k + 1) 0
+halfAt b k = pairOf (getD b k 0) (getD b (k + 1) 0)
 
 -- the letters SITE, and 0 in bytes 5 to 7
 abbrev pub opened : List ℕ → Bool

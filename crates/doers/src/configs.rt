@@ -7,6 +7,8 @@ ghost use Rattle.algorithm.specs.Table.{count, server, withServer, withRole, wi
 ghost use Rattle.algorithm.specs.Actions.{steppedDown, voted, electAfter, reconfigureAfter, sendAfter, spreadAfter};
 ghost use Rattle.table.specs.Layout.{tableIn};
 ghost use Rattle.table.specs.Slice.{Holds, Held, Became, Within};
+use algorithm::PRIMARY;
+use algorithm::SECONDARY;
 use algorithm::Term;
 use algorithm::Version;
 use table::rows::count_of;
@@ -30,7 +32,7 @@ fn step_down(t: &mut [u8], s: usize, term: Term)
     requires { ⌜ Within (now t) s ⌝ }
     ensures { λ _. ⌜ Became (now (t .entry)) (now (t .exit)) (withServer (tableIn (now (t .entry))) s (steppedDown (term .0) (server (tableIn (now (t .entry))) s))) ⌝ }
 {
-    put_standing(t, s, 0, term);
+    put_standing(t, s, SECONDARY, term);
 }
 
 // The branch stands here and not in the loop, whose invariant would have to speak of both ways.
@@ -67,7 +69,7 @@ pub fn elect(t: &mut [u8], i: usize, q: u16)
     let a = row_of(t, i);
     let term = a.term.0 + 1;
     vote(t, q, Term(term));
-    put_standing(t, i, 1, Term(term));
+    put_standing(t, i, PRIMARY, Term(term));
     put_config(t, i, a.set, a.version, Term(term));
 }
 

@@ -3,6 +3,8 @@ ghost use mathlib.Core.Path.{_≡_};
 ghost use Rattle.algorithm.specs.Table.{soundServer};
 ghost use Rattle.figures.specs.Figures.{figured};
 use algorithm::CEILING;
+use algorithm::PRIMARY;
+use algorithm::SECONDARY;
 use algorithm::Term;
 use algorithm::Version;
 use members::is_within;
@@ -11,7 +13,7 @@ use members::is_within;
 pub fn figures_sound(role: u32, term: Term, set: u32, version: Version, config: Term, n: u8) -> bool
     ensures { λ r. ⌜ r ≡ soundServer n (figured role (term .0) set (version .0) (config .0)) ⌝ }
 {
-    let role_sound = (role == 1) & (1 <= term.0) | (role == 0);
+    let role_sound = (role == PRIMARY) & (1 <= term.0) | (role == SECONDARY);
     let config_sound = is_within(set, n)
         & ((1 <= version.0) & (version.0 <= CEILING))
         & (config.0 <= CEILING);

@@ -1,8 +1,8 @@
 -- The table that is being filled. Assumes nothing.
 use Prim.Native.Nat.{ℕ}
 use mathlib.Core.List.{List}
-use lib.ListN.{replicate}
-use Rattle.algorithm.specs.Table.{Table, absent}
+use Rattle.algorithm.specs.Table.{Table}
+use Rattle.table.specs.Slice.{blank}
 use Rattle.contents.specs.Contents.{countIn}
 use Rattle.bodies.specs.Bodies.{body, marksIn}
 
@@ -12,4 +12,4 @@ withMarks ms t = record { servers = t .servers; marks = ms }
 
 -- the table read, but for its servers, of which nothing is known yet
 unfoldable pub unread : List ℕ → Table
-unread im = record { servers = replicate (countIn im) absent; marks = marksIn (body im 0) }
+unread im = withMarks (marksIn (body im 0)) (blank (countIn im))

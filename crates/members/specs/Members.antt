@@ -81,10 +81,14 @@ abbrev pub one : Bool → ℕ
 one true = 1
 one false = 0
 
+-- m, a set of servers 1 to k, and server k + 1 if b
+abbrev pub withNext : ℕ → ℕ → Bool → ℕ
+withNext m k b = one b * 2 ^ k + m
+
 -- the servers 1 to n that pass p
 unfoldable pub mask : ℕ → (ℕ → Bool) → ℕ
 mask zero p = 0
-mask (suc k) p = one (p (suc k)) * 2 ^ k + mask k p
+mask (suc k) p = withNext (mask k p) k (p (suc k))
 
 -- the members of q that pass p
 abbrev pub passing : ℕ → (ℕ → Bool) → ℕ → ℕ

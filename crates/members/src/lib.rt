@@ -1,7 +1,7 @@
 // Sets of servers as masks: server s is bit s - 1.
 ghost use mathlib.Core.Path.{_≡_};
-ghost use Prim.Native.Nat.{_+_, _*_, _^_, _<_};
-ghost use Rattle.members.specs.Members.{one, member, majority, oneApart, within};
+ghost use Prim.Native.Nat.{_^_, _<_};
+ghost use Rattle.members.specs.Members.{member, majority, oneApart, within, withNext};
 
 // Server s is in m.
 pub fn is_member(s: u8, m: u16) -> bool
@@ -37,7 +37,7 @@ pub fn is_majority(q: u16, m: u16) -> bool
 // The set m of servers 1 to k, and server k + 1 if b: how a loop over the servers builds the set of those that pass a test.
 pub fn with_next(m: u16, k: usize, b: bool) -> u16
     requires { ⌜ (k < 16) × (m < 2 ^ k) ⌝ }
-    ensures { λ r. ⌜ r ≡ one b * 2 ^ k + m ⌝ }
+    ensures { λ r. ⌜ r ≡ withNext m k b ⌝ }
 {
     if b {
         return (1 << k) + m;

@@ -15,9 +15,10 @@ use Rattle.members.proofs.Masks.{and-both}
 use Rattle.algorithm.specs.Table.{nth, Table, count, server, mark, positions}
 use Rattle.algorithm.specs.Comparisons.{held}
 use Rattle.algorithm.specs.Actions.{sameTerm, someMarked, holdsMarked, holdsCommitted, supportsAt}
+use Rattle.words.specs.Words.{part}
 use Rattle.table.specs.Layout.{tableIn}
 use Rattle.table.specs.Slice.{Held}
-use Rattle.questions.specs.Marks.{marksPast, narrowedAt, narrowedPast}
+use Rattle.questions.specs.Marks.{narrowedAt, narrowedPast}
 
 -- ---- some position is marked
 
@@ -37,25 +38,25 @@ module _ {b : List ℕ} (held : Held b) (o v : ℕ) where
   abbrev t : Table
   t = tableIn b
 
-  marked-more : (k : ℕ) → o + k < 64 → someMarked (marksPast o (suc k) t) v ≡ (eqb (mark t (o + suc k)) v || someMarked (marksPast o k t) v)
+  marked-more : (k : ℕ) → o + k < 64 → someMarked (part (t .marks) o (suc k)) v ≡ (eqb (mark t (o + suc k)) v || someMarked (part (t .marks) o k) v)
   unfolding nth
   marked-more k l =
       some-more (drop o (t .marks)) k v (simp length-drop (omega (arith, held .shaped .marked)))
       ∙ rw (getD-drop o (t .marks) k 0, add-suc o k)
 
-  pub marked-none : false ≡ someMarked (marksPast o 0 t) v
+  pub marked-none : false ≡ someMarked (part (t .marks) o 0) v
   unfolding someMarked
   marked-none = refl
 
-  pub marked-next : (k n : ℕ) (r : Bool) (m w : ℕ) → o + n ≤ 64 → k < n → r ≡ someMarked (marksPast o k t) v → m ≡ mark t (o + (k + 1)) → w ≡ v
-      → (eqb m w || r) ≡ someMarked (marksPast o (k + 1) t) v
+  pub marked-next : (k n : ℕ) (r : Bool) (m w : ℕ) → o + n ≤ 64 → k < n → r ≡ someMarked (part (t .marks) o k) v → m ≡ mark t (o + (k + 1)) → w ≡ v
+      → (eqb m w || r) ≡ someMarked (part (t .marks) o (k + 1)) v
   marked-next k n r m w l h e f g = rw (e, f, g, add-one) (sym (marked-more k (omega arith)))
 
-  pub marked-all : (k n : ℕ) (r : Bool) → k ≤ n → n ≤ k → r ≡ someMarked (marksPast o k t) v → r ≡ someMarked (marksPast o n t) v
+  pub marked-all : (k n : ℕ) (r : Bool) → k ≤ n → n ≤ k → r ≡ someMarked (part (t .marks) o k) v → r ≡ someMarked (part (t .marks) o n) v
   marked-all k n r l h e = let all : k ≡ n = omega arith in rw all at e
 
 -- of all positions
-pub marked-any : {b : List ℕ} (v : ℕ) (r : Bool) → Held b → r ≡ someMarked (marksPast 0 positions (tableIn b)) v → r ≡ someMarked (tableIn b .marks) v
+pub marked-any : {b : List ℕ} (v : ℕ) (r : Bool) → Held b → r ≡ someMarked (part (tableIn b .marks) 0 positions) v → r ≡ someMarked (tableIn b .marks) v
 marked-any {b} v r held e = e ∙ ap (λ (l : List ℕ). someMarked l v) (take-all 64 (tableIn b .marks) (omega (arith, held .shaped .marked)))
 
 -- ---- a set narrowed
@@ -65,18 +66,18 @@ module _ {b : List ℕ} (held : Held b) (o i q : ℕ) where
   T = server (tableIn b) i .term
 
   -- where no position is marked it stays
-  unmarked : (k : ℕ) → o + k ≤ 64 → someMarked (marksPast o k (tableIn b)) T ≡ false → q ≡ narrowedPast o k (tableIn b) i q
+  unmarked : (k : ℕ) → o + k ≤ 64 → someMarked (part (tableIn b .marks) o k) T ≡ false → q ≡ narrowedPast o k (tableIn b) i q
   unfolding narrowedPast
   unmarked zero l e = refl
   unmarked (suc k) l e =
-      let none = apart (eqb (mark (tableIn b) (o + suc k)) T) (someMarked (marksPast o k (tableIn b)) T) (sym (marked-more held o T k (omega arith)) ∙ e) in
+      let none = apart (eqb (mark (tableIn b) (o + suc k)) T) (someMarked (part (tableIn b .marks) o k) T) (sym (marked-more held o T k (omega arith)) ∙ e) in
       unmarked k (omega arith) (none .1) ∙ rw (none .0)
     where
       apart : (a b : Bool) → (a || b) ≡ false → (a ≡ false) × (b ≡ false)
       apart true b e = absurd (let z : _≡_ {A = ℕ} 0 1 = cc in omega arith)
       apart false b e = (refl, e)
 
-  pub past-unmarked : (k : ℕ) (r : Bool) → o + k ≤ 64 → r ≡ someMarked (marksPast o k (tableIn b)) T → not r ≡ true → q ≡ narrowedPast o k (tableIn b) i q
+  pub past-unmarked : (k : ℕ) (r : Bool) → o + k ≤ 64 → r ≡ someMarked (part (tableIn b .marks) o k) T → not r ≡ true → q ≡ narrowedPast o k (tableIn b) i q
   past-unmarked k r l e h = unmarked k l (sym e ∙ not-true r h)
 
 module _ (o : ℕ) (t : Table) (i q : ℕ) where

@@ -1,16 +1,10 @@
--- Some positions in a row: their marks, and the servers that hold what is marked there with a server's term. Assumes nothing.
+-- The servers that hold what is marked with a server's term at some positions in a row. Assumes nothing.
 use Prim.Native.Nat.{ℕ, zero, suc, _+_}
 use mathlib.Core.Bool.{cond}
-use mathlib.Core.List.{List}
 use lib.Dec.{eqb}
-use lib.ListN.{take, drop}
 use Rattle.members.specs.Members.{passing}
 use Rattle.algorithm.specs.Table.{Table, count, server, mark}
 use Rattle.algorithm.specs.Actions.{supportsAt}
-
--- the marks at the positions o + 1 to o + k
-abbrev pub marksPast : ℕ → ℕ → Table → List ℕ
-marksPast o k t = take k (drop o (t .marks))
 
 -- q; where position p is marked with i's term, only those of q that support i there
 abbrev pub narrowedAt : Table → ℕ → ℕ → ℕ → ℕ

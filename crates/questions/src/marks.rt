@@ -5,9 +5,10 @@ ghost use Prim.Native.Nat.{_+_, _≤_};
 ghost use Rattle.members.specs.Members.{passing};
 ghost use Rattle.algorithm.specs.Table.{count, server, positions};
 ghost use Rattle.algorithm.specs.Actions.{sameTerm, someMarked, holdsCommitted};
+ghost use Rattle.words.specs.Words.{part};
 ghost use Rattle.table.specs.Layout.{tableIn};
 ghost use Rattle.table.specs.Slice.{Held, Within};
-ghost use Rattle.questions.specs.Marks.{marksPast, narrowedAt, narrowedPast};
+ghost use Rattle.questions.specs.Marks.{narrowedAt, narrowedPast};
 use crate::shares::supporters;
 use algorithm::Position;
 use table::rows::mark_of;
@@ -18,7 +19,7 @@ pub fn is_marked(t: &[u8], i: usize, from: u8, n: u8) -> bool
     requires { ⌜ Held (now t) ⌝ }
     requires { ⌜ Within (now t) i ⌝ }
     requires { ⌜ from + n ≤ positions ⌝ }
-    ensures { λ r. ⌜ r ≡ someMarked (marksPast from n (tableIn (now (t .entry)))) (server (tableIn (now (t .entry))) i .term) ⌝ }
+    ensures { λ r. ⌜ r ≡ someMarked (part (tableIn (now (t .entry)) .marks) from n) (server (tableIn (now (t .entry))) i .term) ⌝ }
 {
     let term = term_of(t, i).0;
     let mut some = false;

@@ -8,6 +8,7 @@ ghost use Rattle.table.specs.Slice.{Held};
 ghost use Rattle.texts.specs.Texts.{text, field, fields};
 ghost use Rattle.report.specs.Lines.{reply, letter, figures};
 ghost use Rattle.texts.specs.Buffer.{WroteShort};
+use algorithm::PRIMARY;
 use algorithm::Position;
 use table::rows::Row;
 use table::rows::mark_of;
@@ -29,7 +30,7 @@ fn put_role(buffer: &mut [u8], at: usize, role: u32) -> usize
     requires { ⌜ at + 2 ≤ length (now buffer) ⌝ }
     ensures { λ e. ⌜ WroteShort 2 (now (buffer .entry)) (now (buffer .exit)) at (letter role) e ⌝ }
 {
-    if role == 1 {
+    if role == PRIMARY {
         return put_word(buffer, at, b" P");
     }
     put_word(buffer, at, b" S")

@@ -12,7 +12,7 @@ ghost use Rattle.table.specs.Slice.{Held, Within};
 ghost use Rattle.form.specs.Refused.{holdsIn};
 use algorithm::CEILING;
 use algorithm::POSITIONS;
-use comparisons::PRIMARY;
+use algorithm::PRIMARY;
 use comparisons::lacks_role;
 use members::is_majority;
 use members::is_member;

@@ -32,6 +32,6 @@ pub record Put (b b' : List ℕ) (k v : ℕ) : Type 0 where
   pub sized : length b' ≡ length b
   pub word : words b' ≡ set (words b) k v
 
--- the n words from word k
+-- n numbers of a list, from place k on, the first place being 0
 abbrev pub part : List ℕ → ℕ → ℕ → List ℕ
 part c k n = take n (drop k c)

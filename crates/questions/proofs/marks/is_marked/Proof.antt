@@ -4,15 +4,15 @@ use mathlib.Core.Path.{_≡_}
 use borrow.Author.Needs.{needs}
 use Rattle.algorithm.specs.Table.{server}
 use Rattle.algorithm.specs.Actions.{someMarked}
+use Rattle.words.specs.Words.{part}
 use Rattle.table.specs.Layout.{tableIn}
-use Rattle.questions.specs.Marks.{marksPast}
 use Rattle.questions.proofs.MarkLaws.{marked-none, marked-next, marked-all}
 use Rattle.questions.proofs.marks.is_marked.Statement.{statement}
 use Rattle.questions.proofs.marks.is_marked.Tie as tie
 
 abbrev Inv-loop : tie.InvT-loop
 Inv-loop t i from n term some₀ k₀ some k =
-    (k ≤ n) × (term ≡ server (tableIn t) i .term) × (some ≡ someMarked (marksPast from k (tableIn t)) (server (tableIn t) i .term))
+    (k ≤ n) × (term ≡ server (tableIn t) i .term) × (some ≡ someMarked (part (tableIn t .marks) from k) (server (tableIn t) i .term))
 
 abbrev μ-loop : tie.MeasureT-loop
 μ-loop t i from n term some₀ k₀ some k = n - k
