@@ -64,17 +64,21 @@ module _ (n M : ℕ) (plan : List ℕ) (k : ℕ) where
   leads : (i : ℕ) → T (primary (server end i)) → Leads (core end) i (server end i .config)
   leads i p = record { primary = eqb-yes p; is = refl }
 
+  -- a primary's configuration term is its term, so that a reconfiguration puts the term that 000 puts
+  pub own-term : (i : ℕ) → T (primary (server end i)) → server end i .config .term ≡ server end i .term
+  own-term i p = safe .configs .own (leads i p)
+
   -- every primary holds, at its position, each entry marked with a term not above its own
   pub primaries-complete : (i p : ℕ) → T (primary (server end i)) → 0 < mark end p → mark end p ≤ server end i .term
       → T (held (server end i .log) p (mark end p))
   primaries-complete i p leader marked below =
-      is-held (safe .logs .leads (leads i leader) .complete (record { is = refl; positive = marked }) (omega (arith, safe .configs .own (leads i leader)))) .yes
+      is-held (safe .logs .leads (leads i leader) .complete (record { is = refl; positive = marked }) (omega (arith, own-term i leader))) .yes
 
   -- a term has one primary at most
   pub one-primary : (i j : ℕ) → T (primary (server end i)) → T (primary (server end j))
       → server end i .term ≡ server end j .term → i ≡ j
   one-primary i j p q e =
-      safe .configs .sole (leads i p) (leads j q) (safe .configs .own (leads i p) ∙ e ∙ sym (safe .configs .own (leads j q)))
+      safe .configs .sole (leads i p) (leads j q) (own-term i p ∙ e ∙ sym (own-term j q))
 
   -- two logs that have the same term at a position agree up to there
   pub logs-match : (i j p u : ℕ) → T (held (server end i .log) p u) → T (held (server end j .log) p u)

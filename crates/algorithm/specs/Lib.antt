@@ -1,4 +1,4 @@
--- Document 01's algorithm. In the order to read: a reply's number, the table, comparisons, the eight actions, refusals, runs, the worked
+-- Document 01's algorithm. In the order to read: a reply and its number, the table, comparisons, the eight actions, refusals, runs, the worked
 -- cases; then the algorithm without logs, and the words of demand 3.
 pub mod Reply
 pub mod Table

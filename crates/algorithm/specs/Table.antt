@@ -142,6 +142,10 @@ ceiling = 1000000000
 abbrev pub positions : ℕ
 positions = 64
 
+-- the most servers that a table has
+abbrev pub mostServers : ℕ
+mostServers = 16
+
 -- a configuration: its set has some of n servers and no other, its version is from 1, and both its counters are up to the ceiling
 abbrev pub soundConfig : ℕ → Config → Bool
 soundConfig n c = within (c .set) n && between 1 ceiling (c .version) && leb (c .term) ceiling
@@ -163,9 +167,9 @@ soundServer n s =
 abbrev pub soundMarks : List ℕ → Bool
 soundMarks ms = eqb (length ms) positions && every (λ m. leb m ceiling) ms
 
--- the number of servers: 1 to 16
+-- the number of servers: from 1 to the most
 abbrev pub soundCount : ℕ → Bool
-soundCount n = between 1 16 n
+soundCount n = between 1 mostServers n
 
 -- a rule is broken: the number of servers, one of them or the marks are not as above
 unfoldable pub broken : Table → Bool

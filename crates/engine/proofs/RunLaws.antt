@@ -7,6 +7,8 @@ use native.Mathlib.Numerals.{add-one}
 use native.Mathlib.Omega.{arith}
 use lib.ListN.{length, getD, take, drop, set, length-drop, replicate, length-replicate, replicate-append-replicate}
 use lib.Seq.{take-all, drop-cons, set-at}
+use Rattle.algorithm.specs.declared.Reply.{Reply}
+use Rattle.algorithm.specs.Reply.{numberOf}
 use Rattle.algorithm.specs.Table.{Table}
 use Rattle.algorithm.specs.Run.{step, play, pieces, runTo}
 use Rattle.algorithm.proofs.Runs.{run-next, replies-count}
@@ -14,6 +16,7 @@ use Rattle.table.specs.Layout.{tableIn}
 use Rattle.table.specs.Slice.{Holds}
 use Rattle.table.proofs.HeldLaws.{its-table}
 use Rattle.engine.specs.Engine.{Ready, Stepped, played, Played, AllRefused}
+use Rattle.engine.proofs.StepLaws.{step-number}
 
 -- from the slice b₀ and the replies r₀, k pieces of the plan p are played: the slice is b, the replies are r, and the next piece is at `at`
 pub record Ran (b₀ p r₀ b r : List ℕ) (at k : ℕ) : Type 0 where
@@ -40,14 +43,14 @@ piece p at end h e = go (decLe (at + 8) (length p))
 pub reply-more : (l r : List ℕ) (k x : ℕ) → length l ≡ k → k < length r → set (l ++ drop k r) k x ≡ (l ++ (x ∷ [])) ++ drop (k + 1) r
 reply-more l r k x e h = rw (drop-cons r k 0 h, set-at l (getD r k 0) (drop (suc k) r) x k e, append-assoc, add-one)
 
-pub ran-more : (b₀ p r₀ b r : List ℕ) (at k end n x y : ℕ) (a b' r' : List ℕ) → Ran b₀ p r₀ b r at k → n ≡ played p r₀ → k < n → end ≡ min (at + 8) (length p)
-    → a ≡ take (end - at) (drop at p) → Stepped b a y b' → x ≡ y → r' ≡ set r k x → Ran b₀ p r₀ b' r' end (k + 1)
+pub ran-more : (b₀ p r₀ b r : List ℕ) (at k end n x : ℕ) (y : Reply) (a b' r' : List ℕ) → Ran b₀ p r₀ b r at k → n ≡ played p r₀ → k < n → end ≡ min (at + 8) (length p)
+    → a ≡ take (end - at) (drop at p) → Stepped b a y b' → x ≡ numberOf y → r' ≡ set r k x → Ran b₀ p r₀ b' r' end (k + 1)
 ran-more b₀ p r₀ b r at k end n x y a b' r' h few l e is s same-number w =
     let t : Table = runTo k (tableIn b₀) p .table in
     let here : at ≡ 8 * k = omega (arith, h .place) in
     let mine : a ≡ take 8 (drop (8 * k) p) = is ∙ piece p at end (omega arith) e ∙ ap (λ (n : ℕ). take 8 (drop n p)) here in
     let same : tableIn b ≡ t = its-table (h .table) in
-    let number : x ≡ step t (take 8 (drop (8 * k) p)) .number = rw (← same, ← mine) (same-number ∙ s .number) in
+    let number : x ≡ step t (take 8 (drop (8 * k) p)) .number = rw (← same, ← mine) (same-number ∙ step-number s) in
     record {
       table = rw (run-next k (tableIn b₀) p, ← same, ← mine) (s .table);
       ready = s .ready;

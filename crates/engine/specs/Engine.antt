@@ -4,6 +4,8 @@ use mathlib.Core.Bool.{false}
 use mathlib.Core.List.{List, _++_}
 use mathlib.Core.Path.{_≡_}
 use lib.ListN.{length, drop, replicate}
+use Rattle.algorithm.specs.declared.Reply.{Reply}
+use Rattle.algorithm.specs.Reply.{replyOf}
 use Rattle.algorithm.specs.Table.{broken}
 use Rattle.algorithm.specs.Run.{step, pieceCount, runTo}
 use Rattle.table.specs.Layout.{tableIn}
@@ -14,9 +16,9 @@ pub record Ready (b : List ℕ) : Type 0 where
   pub held : Held b
   pub sound : broken (tableIn b) ≡ false
 
--- the action a on the slice b is answered k, and leaves b'
-pub record Stepped (b a : List ℕ) (k : ℕ) (b' : List ℕ) : Type 0 where
-  pub number : k ≡ step (tableIn b) a .number
+-- the action a on the slice b is answered r, and leaves b'
+pub record Stepped (b a : List ℕ) (r : Reply) (b' : List ℕ) : Type 0 where
+  pub reply : r ≡ replyOf (step (tableIn b) a .number)
   pub table : Holds b' (step (tableIn b) a .table)
   pub ready : Ready b'
 

@@ -1,5 +1,4 @@
 // One action on a table that is whole, and a plan of them.
-ghost use Rattle.algorithm.specs.Reply.{numberOf};
 ghost use Rattle.engine.specs.Engine.{Ready, Stepped, Played, AllRefused};
 use crate::pieces::lesser;
 use crate::pieces::piece_count;
@@ -16,7 +15,7 @@ pub mod pieces;
 // An action is judged, and done if nothing speaks against it.
 pub fn step(t: &mut [u8], a: &[u8]) -> Reply
     requires { ⌜ Ready (now t) ⌝ }
-    ensures { λ r. ⌜ Stepped (now (t .entry)) (now (a .entry)) (numberOf r) (now (t .exit)) ⌝ }
+    ensures { λ r. ⌜ Stepped (now (t .entry)) (now (a .entry)) r (now (t .exit)) ⌝ }
 {
     let form = judge_form(count_of(t), a);
     if form != 0 {

@@ -2,7 +2,7 @@
 ghost use mathlib.Core.Path.{_≡_};
 ghost use Prim.Native.Nat.{_≤_};
 ghost use lib.ListN.{length, replicate};
-ghost use Rattle.algorithm.specs.Table.{fresh};
+ghost use Rattle.algorithm.specs.Table.{fresh, mostServers};
 ghost use Rattle.table.specs.Layout.{tableBytes, stored};
 ghost use Rattle.table.specs.Slice.{Holds, blank};
 use algorithm::Term;
@@ -22,7 +22,7 @@ fn zero(t: &mut [u8])
 
 // A table of n servers of which nothing is known yet, for a reader to fill.
 pub fn fill_blank(t: &mut [u8], n: u8)
-    requires { ⌜ (length (now t) ≡ tableBytes) × (n ≤ 16) ⌝ }
+    requires { ⌜ (length (now t) ≡ tableBytes) × (n ≤ mostServers) ⌝ }
     ensures { λ _. ⌜ Holds (now (t .exit)) (blank n) ⌝ }
 {
     zero(t);
@@ -43,7 +43,7 @@ fn give_set(t: &mut [u8], n: u8, set: u16)
 
 // A fresh table of n servers with one set.
 pub fn fill_fresh(t: &mut [u8], n: u8, set: u16)
-    requires { ⌜ (length (now t) ≡ tableBytes) × (n ≤ 16) ⌝ }
+    requires { ⌜ (length (now t) ≡ tableBytes) × (n ≤ mostServers) ⌝ }
     ensures { λ _. ⌜ now (t .exit) ≡ stored (fresh n set) ⌝ }
 {
     fill_blank(t, n);

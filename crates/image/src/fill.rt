@@ -3,7 +3,7 @@ ghost use mathlib.Core.Path.{_≡_};
 ghost use mathlib.Core.List.{[]};
 ghost use Prim.Native.Nat.{_≤_};
 ghost use lib.ListN.{length, replicate};
-ghost use Rattle.algorithm.specs.Table.{server, withServer, changed, withLog, positions};
+ghost use Rattle.algorithm.specs.Table.{server, withServer, changed, withLog, positions, mostServers};
 ghost use Rattle.table.specs.Layout.{tableBytes, tableIn};
 ghost use Rattle.table.specs.Slice.{Holds, Held, Became, Within};
 ghost use Rattle.contents.specs.Contents.{countIn};
@@ -120,7 +120,7 @@ fn fill_servers(t: &mut [u8], image: &[u8])
 
 pub fn fill(t: &mut [u8], image: &[u8])
     requires { ⌜ length (now t) ≡ tableBytes ⌝ }
-    requires { ⌜ countIn (now image) ≤ 16 ⌝ }
+    requires { ⌜ countIn (now image) ≤ mostServers ⌝ }
     requires { ⌜ Named (now image) ⌝ }
     ensures { λ _. ⌜ Holds (now (t .exit)) (readTable (now (image .entry))) ⌝ }
 {

@@ -4,11 +4,14 @@ use mathlib.Core.Bool.{Bool, true, false}
 use mathlib.Core.List.{List}
 use mathlib.Core.Path.{_≡_, sym, _∙_}
 use lib.ListN.{getD}
+use Rattle.algorithm.specs.declared.Reply.{Reply}
+use Rattle.algorithm.specs.Reply.{numberOf}
 use Rattle.algorithm.specs.Run.{step, runTo}
 use Rattle.table.specs.Layout.{tableIn, whole}
 use Rattle.table.proofs.StoredLaws.{held-stored}
 use Rattle.engine.specs.Engine.{Ready, Stepped, played, Played, AllRefused}
 use Rattle.engine.proofs.ReadyLaws.{whole-ready}
+use Rattle.engine.proofs.StepLaws.{step-number}
 use Rattle.kyntulei.specs.Promise.{StepAnswer, RunAnswer}
 
 module _ (b : List ℕ) (q : Bool) (is : q ≡ whole b) where
@@ -16,9 +19,9 @@ module _ (b : List ℕ) (q : Bool) (is : q ≡ whole b) where
   ready e = whole-ready b (sym is ∙ e)
 
   module _ (a : List ℕ) where
-    pub step-answer : (b' : List ℕ) (k r : ℕ) → ((i : ℕ) → getD b' i 0 < 256) → q ≡ true → Stepped b a k b' → r ≡ k → StepAnswer b a r b'
+    pub step-answer : (b' : List ℕ) (k : Reply) (r : ℕ) → ((i : ℕ) → getD b' i 0 < 256) → q ≡ true → Stepped b a k b' → r ≡ numberOf k → StepAnswer b a r b'
     step-answer b' k r bytes e s w =
-        record { reply = rw (← is, e) (w ∙ s .number); bytes = rw (← is, e) (held-stored b' (step (tableIn b) a .table) bytes (s .table)) }
+        record { reply = rw (← is, e) (w ∙ step-number s); bytes = rw (← is, e) (held-stored b' (step (tableIn b) a .table) bytes (s .table)) }
 
     pub step-broken : q ≡ false → StepAnswer b a 1 b
     step-broken e = record { reply = rw (← is, e); bytes = rw (← is, e) }

@@ -19,9 +19,13 @@ abbrev pub siteLines : List ℕ → List (List ℕ)
 siteLines input =
     unlessRefused (siteReply input) (playedLines (readTable input) (drop (readEnd input) input)) (badSiteLine (siteReply input) ∷ [])
 
+-- the longest input that is read
+abbrev pub longest : ℕ
+longest = 65536
+
 -- the lines of any input
 unfoldable pub inputLines : List ℕ → List (List ℕ)
-inputLines input = cond (ltb 65536 (length input)) (tooLongLine ∷ []) (siteLines input)
+inputLines input = cond (ltb longest (length input)) (tooLongLine ∷ []) (siteLines input)
 
 -- the bytes of all lines
 abbrev pub printed : List ℕ → List ℕ

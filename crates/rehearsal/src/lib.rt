@@ -4,7 +4,7 @@ ghost use lib.ListN.{length, take};
 ghost use mathlib.Core.List.{flatten};
 ghost use Rattle.engine.specs.Engine.{Ready};
 ghost use Rattle.report.specs.Report.{repliedLines, cutLines, rowLines, tableLines, playedLines};
-ghost use Rattle.rehearsal.specs.Printed.{printed};
+ghost use Rattle.rehearsal.specs.Printed.{longest, printed};
 ghost use Rattle.table.specs.Layout.{tableIn};
 ghost use Rattle.table.specs.Slice.{Held};
 ghost use Rattle.texts.specs.Buffer.{Wrote, WroteShort};
@@ -27,7 +27,7 @@ pub const ROOM: usize = 30 * PIECES + 15 + 83 * 16 + 710;
 
 // The first n replies, each under its action's number.
 fn put_replies(buffer: &mut [u8], from: usize, replies: &[u8], n: usize) -> usize
-    requires { ⌜ (n ≤ length (now replies)) × (n ≤ 8192) ⌝ }
+    requires { ⌜ (n ≤ length (now replies)) × (8 * n ≤ longest) ⌝ }
     requires { ⌜ from + 30 * n ≤ length (now buffer) ⌝ }
     ensures { λ e. ⌜ WroteShort (30 * n) (now (buffer .entry)) (now (buffer .exit)) from (flatten (repliedLines (take n (now (replies .entry))))) e ⌝ }
 {
@@ -42,7 +42,7 @@ fn put_replies(buffer: &mut [u8], from: usize, replies: &[u8], n: usize) -> usiz
 
 // The next number, where some bytes are left over.
 fn put_cut(buffer: &mut [u8], at: usize, actions: &[u8]) -> usize
-    requires { ⌜ length (now actions) ≤ 65536 ⌝ }
+    requires { ⌜ length (now actions) ≤ longest ⌝ }
     requires { ⌜ at + 15 ≤ length (now buffer) ⌝ }
     ensures { λ e. ⌜ WroteShort 15 (now (buffer .entry)) (now (buffer .exit)) at (flatten (cutLines (now (actions .entry)))) e ⌝ }
 {
@@ -80,7 +80,7 @@ fn put_table(buffer: &mut [u8], at: usize, t: &[u8]) -> usize
 // The whole actions are played first, and then told: nothing but the engine's run plays an action.
 fn put_played(buffer: &mut [u8], t: &mut [u8], actions: &[u8]) -> usize
     requires { ⌜ Ready (now t) ⌝ }
-    requires { ⌜ length (now actions) ≤ 65536 ⌝ }
+    requires { ⌜ length (now actions) ≤ longest ⌝ }
     requires { do ⌜ (← ⟦ROOM⟧) ≤ length (now buffer) ⌝ }
     ensures { λ e. ⌜ Wrote (now (buffer .entry)) (now (buffer .exit)) 0 (flatten (playedLines (tableIn (now (t .entry))) (now (actions .entry)))) e ⌝ }
 {

@@ -5,7 +5,7 @@ use mathlib.Core.Bool.{Bool, true, false, not, _&&_}
 use mathlib.Core.List.{List, [], _∷_, _++_, map}
 use lib.Dec.{eqb}
 use lib.ListN.{length, getD, take, drop, replicate}
-use Rattle.algorithm.specs.Table.{Entry, Log, entries, Server, Table, count, positions, broken}
+use Rattle.algorithm.specs.Table.{Entry, Log, entries, Server, Table, count, positions, mostServers, broken}
 use Rattle.words.specs.Words.{words, bytes}
 
 -- ---- sizes
@@ -47,7 +47,7 @@ rows (suc k) (s ∷ ss) = row s ++ rows k ss
 
 -- the words of a table
 unfoldable pub layout : Table → List ℕ
-layout t = head (count t) (t .marks) ++ rows 16 (t .servers)
+layout t = head (count t) (t .marks) ++ rows mostServers (t .servers)
 
 -- the bytes of a table
 unfoldable pub stored : Table → List ℕ

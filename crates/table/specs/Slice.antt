@@ -3,7 +3,7 @@ use Prim.Native.Nat.{ℕ, _≤_, _<_}
 use mathlib.Core.Path.{_≡_}
 use mathlib.Core.List.{List, [], _∷_}
 use lib.ListN.{length, replicate}
-use Rattle.algorithm.specs.Table.{Server, Table, count, absent, positions}
+use Rattle.algorithm.specs.Table.{Server, Table, count, absent, positions, mostServers}
 use Rattle.algorithm.specs.Comparisons.{last}
 use Rattle.words.specs.Words.{words}
 use Rattle.table.specs.Layout.{tableBytes, layout, tableIn}
@@ -25,7 +25,7 @@ AllRoomy (s ∷ ss) = Roomy s × AllRoomy ss
 
 -- a table that has room in the slice
 pub record Shaped (t : Table) : Type 0 where
-  pub few : count t ≤ 16
+  pub few : count t ≤ mostServers
   pub roomy : AllRoomy (t .servers)
   pub marked : length (t .marks) ≡ positions
 

@@ -41,6 +41,9 @@ pub const LENGTH: usize = 5;
 
 pub const LOG: usize = 6;
 
+// How many words of a row are for entries, or for marks.
+pub const ENTRIES: usize = ROW - LOG;
+
 // How many servers there are.
 pub fn count_of(t: &[u8]) -> u8
     requires { ⌜ Held (now t) ⌝ }

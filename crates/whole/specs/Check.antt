@@ -4,7 +4,7 @@ use mathlib.Core.Bool.{Bool, true, _&&_}
 use mathlib.Core.List.{List, []}
 use lib.Dec.{leb}
 use lib.ListN.{getD, drop}
-use Rattle.algorithm.specs.Table.{every, between, withLog, ceiling, positions, soundServer}
+use Rattle.algorithm.specs.Table.{every, between, withLog, ceiling, positions, mostServers, soundServer}
 use Rattle.words.specs.Words.{part}
 use Rattle.table.specs.Layout.{rowWords, serverOf}
 
@@ -28,4 +28,4 @@ soundWords n c =
     every (between 0 0) (part c 1 5)
     && every (between 0 ceiling) (part c 6 positions)
     && soundRows n n (drop rowWords c)
-    && every (between 0 0) (part c (rowWords * n + rowWords) (rowWords * 16 - rowWords * n))
+    && every (between 0 0) (part c (rowWords * n + rowWords) (rowWords * mostServers - rowWords * n))

@@ -3,9 +3,9 @@ ghost use mathlib.Core.Path.{_≡_};
 ghost use mathlib.Core.List.{[]};
 ghost use Prim.Native.Nat.{_*_, _≤_};
 ghost use lib.ListN.{length, drop};
-ghost use Rattle.algorithm.specs.Table.{withLog, soundServer};
+ghost use Rattle.algorithm.specs.Table.{withLog, soundServer, mostServers};
 ghost use Rattle.words.specs.Words.{words};
-ghost use Rattle.table.specs.Layout.{tableBytes, serverOf, whole};
+ghost use Rattle.table.specs.Layout.{rowWords, tableBytes, serverOf, whole};
 ghost use Rattle.whole.specs.Check.{soundRow, soundRows, soundWords};
 use algorithm::CEILING;
 use algorithm::Term;
@@ -13,6 +13,7 @@ use algorithm::Version;
 use figures::figures_sound;
 use table::BYTES;
 use table::rows::CONFIG;
+use table::rows::ENTRIES;
 use table::rows::LENGTH;
 use table::rows::LOG;
 use table::rows::ROLE;
@@ -23,13 +24,15 @@ use table::rows::VERSION;
 use words::all_between;
 use words::word;
 
-// The words of the servers' 16 rows.
-const SERVERS: usize = 1120;
+// The longest log that a row has room for, and the words of the servers' 16 rows.
+const LONGEST: u32 = ENTRIES as u32;
+
+const SERVER_WORDS: usize = 16 * ROW;
 
 // The figures of server s of n are sound.
 fn row_figures_sound(t: &[u8], n: u8, s: usize) -> bool
-    requires { ⌜ (length (now t) ≡ tableBytes) × (s ≤ 16) ⌝ }
-    ensures { λ r. ⌜ r ≡ soundServer n (withLog [] (serverOf (drop (70 * s) (words (now (t .entry)))))) ⌝ }
+    requires { ⌜ (length (now t) ≡ tableBytes) × (s ≤ mostServers) ⌝ }
+    ensures { λ r. ⌜ r ≡ soundServer n (withLog [] (serverOf (drop (rowWords * s) (words (now (t .entry)))))) ⌝ }
 {
     let at = ROW * s;
     let role = word(t, at + ROLE);
@@ -41,25 +44,25 @@ fn row_figures_sound(t: &[u8], n: u8, s: usize) -> bool
 }
 
 fn row_sound(t: &[u8], n: u8, s: usize) -> bool
-    requires { ⌜ (length (now t) ≡ tableBytes) × (s ≤ 16) ⌝ }
-    ensures { λ r. ⌜ r ≡ soundRow n (drop (70 * s) (words (now (t .entry)))) ⌝ }
+    requires { ⌜ (length (now t) ≡ tableBytes) × (s ≤ mostServers) ⌝ }
+    ensures { λ r. ⌜ r ≡ soundRow n (drop (rowWords * s) (words (now (t .entry)))) ⌝ }
 {
     let at = ROW * s;
     let length = word(t, at + LENGTH);
-    if 64 < length {
+    if LONGEST < length {
         return false;
     }
     let k = length as usize;
     let figures = row_figures_sound(t, n, s);
     let entries = all_between(t, at + LOG, k, 1, CEILING);
-    let beyond = all_between(t, at + (LOG + k), 64 - k, 0, 0);
+    let beyond = all_between(t, at + (LOG + k), ENTRIES - k, 0, 0);
     figures & entries & beyond
 }
 
 fn rows_sound(t: &[u8], n: u8) -> bool
     requires { ⌜ length (now t) ≡ tableBytes ⌝ }
-    requires { ⌜ n ≤ 16 ⌝ }
-    ensures { λ r. ⌜ r ≡ soundRows n n (drop 70 (words (now (t .entry)))) ⌝ }
+    requires { ⌜ n ≤ mostServers ⌝ }
+    ensures { λ r. ⌜ r ≡ soundRows n n (drop rowWords (words (now (t .entry)))) ⌝ }
 {
     let mut ok = true;
     let mut k: u8 = 0;
@@ -72,14 +75,14 @@ fn rows_sound(t: &[u8], n: u8) -> bool
 
 fn words_sound(t: &[u8], n: u8) -> bool
     requires { ⌜ length (now t) ≡ tableBytes ⌝ }
-    requires { ⌜ n ≤ 16 ⌝ }
+    requires { ⌜ n ≤ mostServers ⌝ }
     ensures { λ r. ⌜ r ≡ soundWords n (words (now (t .entry))) ⌝ }
 {
     let used = ROW * n as usize;
     let spare = all_between(t, 1, 5, 0, 0);
-    let marks = all_between(t, LOG, 64, 0, CEILING);
+    let marks = all_between(t, LOG, ENTRIES, 0, CEILING);
     let rows = rows_sound(t, n);
-    let beyond = all_between(t, used + ROW, SERVERS - used, 0, 0);
+    let beyond = all_between(t, used + ROW, SERVER_WORDS - used, 0, 0);
     spare & marks & rows & beyond
 }
 
