@@ -14,7 +14,7 @@ use Rattle.algorithm.specs.Run.{step, pieces, play, runTo}
 use Rattle.algorithm.specs.Demand.{wonBy, wonAlong, termsWon, Rising}
 use Rattle.algorithm.specs.Logless as logless
 use Rattle.algorithm.specs.Logless.{core, Moves, none, then}
-use Rattle.algorithm.proofs.Logs.{Holds}
+use Rattle.algorithm.proofs.Logs.{HasEntry}
 use Rattle.algorithm.proofs.Invariant.{Leads}
 use Rattle.algorithm.proofs.Elections.{wins-rise}
 use Rattle.algorithm.proofs.Seen.{view}
@@ -84,6 +84,6 @@ module _ (n M : ℕ) (plan : List ℕ) (k : ℕ) where
   pub logs-match : (i j p u : ℕ) → T (held (server end i .log) p u) → T (held (server end j .log) p u)
       → (r : ℕ) → r ≤ p → termAt (server end i .log) r ≡ termAt (server end j .log) r
   logs-match i j p u h g =
-      let a : Holds (server end i .log) p u = held-is (record { yes = h }) in
-      let b : Holds (server end j .log) p u = held-is (record { yes = g }) in
+      let a : HasEntry (server end i .log) p u = held-is (record { yes = h }) in
+      let b : HasEntry (server end j .log) p u = held-is (record { yes = g }) in
       safe .logs .agree {m = i} {n = j} a b (omega arith)

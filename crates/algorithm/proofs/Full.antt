@@ -11,7 +11,7 @@ use Rattle.algorithm.specs.Table.{Log, entryAt, termAt}
 use Rattle.algorithm.specs.Comparisons.{last, ahead}
 use Rattle.algorithm.specs.Logless as logless
 use Rattle.algorithm.specs.Logless.{State, put}
-use Rattle.algorithm.proofs.Logs.{Holds, Prefix}
+use Rattle.algorithm.proofs.Logs.{HasEntry, Prefix}
 
 pub record View : Type 0 where
   pub core : State
@@ -33,7 +33,7 @@ pub record Settled (v : View) (i : ℕ) : Type 0 where
   pub position : ℕ
   pub marked : Marked (v .mark) position (v .core i .term)
   pub most : Most (v .core i .config .set)
-      (λ n. (v .core n .term ≡ v .core i .term) × ((p : ℕ) → Marked (v .mark) p (v .core i .term) → Holds (v .log n) p (v .core i .term)))
+      (λ n. (v .core n .term ≡ v .core i .term) × ((p : ℕ) → Marked (v .mark) p (v .core i .term) → HasEntry (v .log n) p (v .core i .term)))
 
 -- what logs and marks ask of an action on configurations
 abbrev pub LogsAllow : View → logless.Action → Type 0
@@ -57,7 +57,7 @@ pub record CanCommit (v : View) (i q : ℕ) : Type 0 where
   pub majority : Majority q (v .core i .config .set)
   pub some : 0 < length (v .log i)
   pub own : last (v .log i) ≡ v .core i .term
-  pub held : All q (λ n. (v .core n .term ≡ v .core i .term) × Holds (v .log n) (length (v .log i)) (v .core i .term))
+  pub held : All q (λ n. (v .core n .term ≡ v .core i .term) × HasEntry (v .log n) (length (v .log i)) (v .core i .term))
 
 abbrev pub Allowed : View → Action → Type 0
 Allowed v (config a) = logless.Allowed (v .core) a × LogsAllow v a

@@ -10,7 +10,7 @@ use Rattle.algorithm.specs.Table.{Entry, Log, nth, termAt}
 use Rattle.algorithm.specs.Comparisons.{last}
 
 -- l has an entry of term t at position p
-pub record Holds (l : Log) (p t : ℕ) : Type 0 where
+pub record HasEntry (l : Log) (p t : ℕ) : Type 0 where
   pub some : 1 ≤ p
   pub within : p ≤ length l
   pub is : termAt l p ≡ t
@@ -24,7 +24,7 @@ pub record Prefix (l m : Log) : Type 0 where
   pub short : length l ≤ length m
   pub same : Same (length l) l m
 
-pub last-held : {l : Log} → 0 < length l → Holds l (length l) (last l)
+pub last-held : {l : Log} → 0 < length l → HasEntry l (length l) (last l)
 last-held h = record { some = omega arith; within = omega arith; is = refl }
 
 -- no log has an entry at position 0
@@ -33,7 +33,7 @@ unfolding nth
 at-zero l m = refl
 
 -- a log whose last entry is not 0 is not empty
-pub last-positive : {l : Log} {b : ℕ} → b < last l → Holds l (length l) (last l)
+pub last-positive : {l : Log} {b : ℕ} → b < last l → HasEntry l (length l) (last l)
 unfolding nth
 last-positive {l = []} h = absurd (omega arith)
 last-positive {l = e ∷ l} h = record { some = omega arith; within = omega arith; is = refl }
@@ -41,7 +41,7 @@ last-positive {l = e ∷ l} h = record { some = omega arith; within = omega arit
 pub prefix-refl : (l : Log) → Prefix l l
 prefix-refl l = record { short = omega arith; same = λ r h. refl }
 
-pub prefix-holds : {l m : Log} {p t : ℕ} → Prefix l m → Holds l p t → Holds m p t
+pub prefix-holds : {l m : Log} {p t : ℕ} → Prefix l m → HasEntry l p t → HasEntry m p t
 prefix-holds {p} f h =
     record { some = h .some; within = omega (arith, f .short, h .within); is = sym (f .same p (h .within)) ∙ h .is }
 
@@ -58,7 +58,7 @@ module _ (l : Log) (e : Entry) where
   unfolding nth
   at-plus-end = rw add-one (ap (λ x. x .term) (getD-append-seam l e [] _))
 
-  pub plus-holds : {p t : ℕ} → Holds l p t → Holds (l ++ (e ∷ [])) p t
+  pub plus-holds : {p t : ℕ} → HasEntry l p t → HasEntry (l ++ (e ∷ [])) p t
   plus-holds {p} h =
       record { some = h .some; within = omega (arith, h .within, length-plus); is = at-plus p (h .within) ∙ h .is }
 

@@ -8,7 +8,7 @@ use lib.ListN.{length, getD, replicate}
 use Rattle.algorithm.specs.Table.{nth, server, mark, withLog, positions, fresh}
 use Rattle.algorithm.specs.Logless as logless
 use Rattle.algorithm.specs.Logless.{core, Fresh}
-use Rattle.algorithm.proofs.Logs.{Holds}
+use Rattle.algorithm.proofs.Logs.{HasEntry}
 use Rattle.algorithm.proofs.Invariant.{Inv}
 use Rattle.algorithm.proofs.Elections.{inv-fresh, inv-move}
 use Rattle.algorithm.proofs.Full.{View, Marked, write, Move, config, fetch, roll-back, commit, rests, takes}
@@ -26,7 +26,7 @@ module _ (n M : ℕ) where
   pub core-fresh : Fresh M (core (fresh n M))
   core-fresh k = ⊎-elim (λ e. inl (ap (withLog []) e)) (λ e. inr (ap (withLog []) e)) (server-fresh n M k)
 
-  no-entry : (k : ℕ) {p u : ℕ} → Holds (server (fresh n M) k .log) p u → ⊥
+  no-entry : (k : ℕ) {p u : ℕ} → HasEntry (server (fresh n M) k .log) p u → ⊥
   no-entry k h =
       let e : length (server (fresh n M) k .log) ≡ 0 = ⊎-elim (λ e. ap (λ s. length (s .log)) e) (λ e. ap (λ s. length (s .log)) e) (server-fresh n M k) in
       omega (arith, h .some, h .within)

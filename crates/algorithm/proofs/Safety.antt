@@ -16,7 +16,7 @@ use Rattle.algorithm.specs.Comparisons.{last, ahead}
 use Rattle.algorithm.specs.Logless as logless
 use Rattle.algorithm.specs.Logless.{State, CanElect, CanReconfigure, put}
 use Rattle.algorithm.proofs.Choice.{put-elim}
-use Rattle.algorithm.proofs.Logs.{Holds, Same, Prefix, at-zero, prefix-refl, plus-holds, length-plus, at-plus, at-plus-end, length-cut, at-cut, last-held, last-positive}
+use Rattle.algorithm.proofs.Logs.{HasEntry, Same, Prefix, at-zero, prefix-refl, plus-holds, length-plus, at-plus, at-plus-end, length-cut, at-cut, last-held, last-positive}
 use Rattle.algorithm.proofs.Orders.{not-larger}
 use Rattle.algorithm.proofs.Invariant.{here, Leads, Inv}
 use Rattle.algorithm.proofs.Steps.{Makes, elect-active, election-new, newest, leads}
@@ -35,25 +35,25 @@ module _ (t : View) (inv : Inv (t .core)) (log : LogInv (t .core) (t .log) (Mark
 
   module _ (i : ℕ) (Q : ℕ) (can : CanElect c i Q) (up : LogsAllow t (logless.elect i Q)) where
     -- every entry's term is smaller than the election's
-    new-term : {n p u : ℕ} → Holds (L n) p u → u < c i .term + 1
+    new-term : {n p u : ℕ} → HasEntry (L n) p u → u < c i .term + 1
     new-term h = let (n, g) = log .known h in omega (arith, election-new inv i Q can (here c n))
 
     -- a log that is not behind one with a committed entry has that entry
-    has-entry : {n p u : ℕ} → T (not (ahead (L n) (L i))) → M p u → Holds (L n) p u → Holds (L i) p u
+    has-entry : {n p u : ℕ} → T (not (ahead (L n) (L i))) → M p u → HasEntry (L n) p u → HasEntry (L i) p u
     has-entry {n} {p} {u} up m h = go (decLt (last (L n)) (last (L i)))
       where
-        hn : Holds (L n) (length (L n)) (last (L n))
+        hn : HasEntry (L n) (length (L n)) (last (L n))
         hn = last-held (omega (arith, h .some, h .within))
 
         not-behind : (last (L n) ≤ last (L i)) × (last (L n) ≡ last (L i) → length (L n) ≤ length (L i))
         not-behind = not-larger (last (L n)) (length (L n)) (last (L i)) (length (L i)) up
 
-        go : Dec (last (L n) < last (L i)) → Holds (L i) p u
+        go : Dec (last (L n) < last (L i)) → HasEntry (L i) p u
         go (yes o) = log .complete (last-positive o) m (omega (arith, log .sorted hn h (h .within))) .1
         go (no o) =
             let e : last (L i) ≡ last (L n) = omega (arith, not-behind .0) in
             let long : length (L n) ≤ length (L i) = not-behind .1 (sym e) in
-            let hi : Holds (L i) (length (L i)) (last (L n)) = rw e at (last-held {l = L i} (omega (arith, h .some, h .within))) in
+            let hi : HasEntry (L i) (length (L i)) (last (L n)) = rw e at (last-held {l = L i} (omega (arith, h .some, h .within))) in
             record { some = h .some; within = omega (arith, h .within); is = log .agree hi hn long p (h .within) ∙ h .is }
 
     elect-leads : (C : Config) → Makes c (logless.elect i Q) C → LeadLog L M i (C .term)
@@ -63,25 +63,25 @@ module _ (t : View) (inv : Inv (t .core)) (log : LogInv (t .core) (t .log) (Mark
       complete = λ m _. let (n, b, h) = log .committed (here c i) (elect-active inv i Q can) m Q (can .majority) in has-entry (up n b) m h;
     }
 
-    elect-hits : (C : Config) (p u : ℕ) → Makes c (logless.elect i Q) C → M p u → Hits (C .set) (λ n. Holds (L n) p u)
-    elect-hits C p u e m = subst (λ (D : Config). Hits (D .set) (λ n. Holds (L n) p u)) e (log .committed (here c i) (elect-active inv i Q can) m)
+    elect-hits : (C : Config) (p u : ℕ) → Makes c (logless.elect i Q) C → M p u → Hits (C .set) (λ n. HasEntry (L n) p u)
+    elect-hits C p u e m = subst (λ (D : Config). Hits (D .set) (λ n. HasEntry (L n) p u)) e (log .committed (here c i) (elect-active inv i Q can) m)
 
   module _ (i : ℕ) (N : ℕ) (can : CanReconfigure c i N) (settled : Settled t i) where
     reconfigure-leads : (C : Config) → Makes c (logless.reconfigure i N) C → LeadLog L M i (C .term)
     reconfigure-leads C e = subst (LeadLog L M i) (ap (λ (D : Config). D .term) e) (log .leads (leads inv i N can))
 
     -- the majority of P1 has every committed entry
-    all-held : {p u : ℕ} → M p u → Most (c i .config .set) (λ n. Holds (L n) p u)
+    all-held : {p u : ℕ} → M p u → Most (c i .config .set) (λ n. HasEntry (L n) p u)
     all-held {p} {u} m = most-map (λ n (_, y). go n y (ℕ-discrete u (c i .term))) (settled .most)
       where
-        go : (n : ℕ) → ((p : ℕ) → M p (c i .term) → Holds (L n) p (c i .term)) → Dec (u ≡ c i .term) → Holds (L n) p u
+        go : (n : ℕ) → ((p : ℕ) → M p (c i .term) → HasEntry (L n) p (c i .term)) → Dec (u ≡ c i .term) → HasEntry (L n) p u
         go n y (yes e) = rw e (y p (rw e at m))
         go n y (no e) =
             let (k, h) = log .marked m in
             log .complete (y (settled .position) (settled .marked)) m (omega (arith, newest inv i N can (here c k) .0, inv .own (leads inv i N can))) .1
 
-    reconfigure-hits : (C : Config) (p u : ℕ) → Makes c (logless.reconfigure i N) C → M p u → Hits (C .set) (λ n. Holds (L n) p u)
-    reconfigure-hits C p u e m = subst (λ (D : Config). Hits (D .set) (λ n. Holds (L n) p u)) e (most-hits (can .meet) (all-held m))
+    reconfigure-hits : (C : Config) (p u : ℕ) → Makes c (logless.reconfigure i N) C → M p u → Hits (C .set) (λ n. HasEntry (L n) p u)
+    reconfigure-hits C p u e m = subst (λ (D : Config). Hits (D .set) (λ n. HasEntry (L n) p u)) e (most-hits (can .meet) (all-held m))
 
   config-keeps : (a : logless.Action) → logless.Allowed c a → LogsAllow t a → LogInv (logless.after c a) L M
   config-keeps (logless.elect i Q) can up = configs-change inv log (logless.elect i Q) can (elect-leads i Q can up) (elect-hits i Q can up)
@@ -99,7 +99,7 @@ module _ (t : View) (inv : Inv (t .core)) (log : LogInv (t .core) (t .log) (Mark
       logs-prefix inv log
       (put-elim (λ n x. (m : ℕ) × Prefix x (L m)) (j, prefix) (λ n. (n, prefix-refl (L n))))
       (secondary-only i (L i ++ (next ∷ [])) (can .secondary))
-      (λ n p u m. put-elim (λ n x. Holds (L n) p u → Holds x p u) (plus-holds (L i) next) (λ n h. h) n)
+      (λ n p u m. put-elim (λ n x. HasEntry (L n) p u → HasEntry x p u) (plus-holds (L i) next) (λ n h. h) n)
     where
       next : Entry
       next = entryAt (L j) (length (L i) + 1)
@@ -121,12 +121,12 @@ module _ (t : View) (inv : Inv (t .core)) (log : LogInv (t .core) (t .log) (Mark
       logs-prefix inv log
       (put-elim (λ n x. (m : ℕ) × Prefix x (L m)) (i, prefix) (λ n. (n, prefix-refl (L n))))
       (secondary-only i (take (length (L i) - 1) (L i)) (can .secondary))
-      (λ n p u m. put-elim (λ n x. Holds (L n) p u → Holds x p u) (λ h. kept m h (decLe p (length (L i) - 1))) (λ n h. h) n)
+      (λ n p u m. put-elim (λ n x. HasEntry (L n) p u → HasEntry x p u) (λ h. kept m h (decLe p (length (L i) - 1))) (λ n h. h) n)
     where
       prefix : Prefix (take (length (L i) - 1) (L i)) (L i)
       prefix = record { short = omega (arith, length-cut (L i)); same = λ r h. at-cut (L i) r (omega (arith, length-cut (L i))) }
 
-      kept : {p u : ℕ} → M p u → Holds (L i) p u → Dec (p ≤ length (L i) - 1) → Holds (take (length (L i) - 1) (L i)) p u
+      kept : {p u : ℕ} → M p u → HasEntry (L i) p u → Dec (p ≤ length (L i) - 1) → HasEntry (take (length (L i) - 1) (L i)) p u
       kept {p} m h (yes o) = record { some = h .some; within = omega (arith, length-cut (L i)); is = at-cut (L i) p o ∙ h .is }
       -- a committed last entry is in j's log, of which i's log is then a prefix
       kept {p} {u} m h (no o) =
@@ -145,10 +145,10 @@ module _ (t : View) (inv : Inv (t .core)) (log : LogInv (t .core) (t .log) (Mark
     term-own : c i .config .term ≡ c i .term
     term-own = inv .own (primary-leads (can .primary))
 
-    most : Most (c i .config .set) (λ n. (c n .term ≡ c i .config .term) × Holds (L n) (length (L i)) (c i .config .term))
+    most : Most (c i .config .set) (λ n. (c n .term ≡ c i .config .term) × HasEntry (L n) (length (L i)) (c i .config .term))
     most = record { by = Q; majority = can .majority; all = rw term-own (can .held) }
 
-    held : Holds (L i) (length (L i)) (c i .config .term)
+    held : HasEntry (L i) (length (L i)) (c i .config .term)
     held = rw (term-own, ← can .own) (last-held (can .some))
 
     -- what is marked at the position already has this term

@@ -22,7 +22,7 @@ use Rattle.algorithm.specs.Logless as logless
 use Rattle.algorithm.specs.Logless.{core, put}
 use Rattle.algorithm.proofs.Lists.{nth-replace}
 use Rattle.algorithm.proofs.Refused.{NoneHold, Taken, outcome}
-use Rattle.algorithm.proofs.Logs.{Holds, Prefix}
+use Rattle.algorithm.proofs.Logs.{HasEntry, Prefix}
 use Rattle.algorithm.proofs.Full as full
 use Rattle.algorithm.proofs.Full.{View, Settled, CanCommit, Move, rests, takes}
 use Rattle.algorithm.proofs.Seen.{view, view-is, within-width, view-core, view-log, count-voted, log-voted, core-voted}
@@ -30,13 +30,13 @@ use Rattle.algorithm.proofs.Sound.{SoundTable, table-sound, here-sound}
 
 -- ---- what the tests mean
 
-pub held-is : {l : Log} {p u : ℕ} → Passes (held l p u) → Holds l p u
+pub held-is : {l : Log} {p u : ℕ} → Passes (held l p u) → HasEntry l p u
 held-is h =
     let (ab, c) = both h in
     let (a, b) = both ab in
     record { some = at-most a; within = at-most b; is = equal c }
 
-pub is-held : {l : Log} {p u : ℕ} → Holds l p u → Passes (held l p u)
+pub is-held : {l : Log} {p u : ℕ} → HasEntry l p u → Passes (held l p u)
 is-held h = together (together (is-at-most (h .some)) (is-at-most (h .within))) (is-equal (h .is))
 
 is-prefix : (l m : Log) → Prefix l m → Passes (prefix l m)
@@ -55,7 +55,7 @@ some-marked ms u h = let (k, e) = go ms h in (suc k, e)
     go [] h = absurd (h .yes)
     go (m ∷ ms) h = ⊎-elim (λ e. (0, equal e)) (λ r. let (k, e) = go ms r in (suc k, e)) (either {a = eqb m u} h)
 
-holds-marked : (t : Table) (u : ℕ) (l : Log) (k : ℕ) → Passes (holdsMarked k t u l) → (p : ℕ) → 1 ≤ p → p ≤ k → mark t p ≡ u → Holds l p u
+holds-marked : (t : Table) (u : ℕ) (l : Log) (k : ℕ) → Passes (holdsMarked k t u l) → (p : ℕ) → 1 ≤ p → p ≤ k → mark t p ≡ u → HasEntry l p u
 unfolding holdsMarked
 holds-marked t u l zero h p a b e = absurd (omega arith)
 holds-marked t u l (suc k) h p a b e =

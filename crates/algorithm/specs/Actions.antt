@@ -1,6 +1,6 @@
 -- The eight actions: the bytes that name one; for each kind the refusals that are its own, lowest first, and the table after it.
 -- A byte is any number here; those that come from a slice are below 256. Assumes nothing.
-use Prim.Native.Nat.{ℕ, zero, suc, _+_, _*_}
+use Prim.Native.Nat.{ℕ, zero, suc, _+_, _*_, _/_, _%_}
 use mathlib.Core.Bool.{Bool, true, false, cond, not, _&&_, _||_}
 use mathlib.Core.List.{List, [], _∷_}
 use lib.Dec.{leb, ltb, eqb}
@@ -30,6 +30,10 @@ jOf bs = byte bs 2
 -- a number of two bytes, the low one first
 abbrev pub pairOf : ℕ → ℕ → ℕ
 pairOf low high = low + 256 * high
+
+-- the two bytes of a number
+abbrev pub half : ℕ → List ℕ
+half v = v % 256 ∷ v / 256 % 256 ∷ []
 
 -- the set
 abbrev pub setOf : List ℕ → ℕ

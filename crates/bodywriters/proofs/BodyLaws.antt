@@ -8,6 +8,7 @@ use mathlib.Core.List.{List, [], _∷_, _++_}
 use lib.ListN.{length, getD, take, length-map, List·getD-map}
 use lib.Seq.{take-suc, take-all}
 use Rattle.algorithm.specs.Table.{Entry, Server, Table, absent, nth, server, termAt, mark, trimmed}
+use Rattle.algorithm.specs.Actions.{half}
 use Rattle.words.specs.Words.{bytes}
 use Rattle.words.proofs.WordLaws.{length-bytes}
 use Rattle.table.specs.declared.rows.Row.{Row}
@@ -16,7 +17,7 @@ use Rattle.table.specs.Slice.{Held, seen}
 use Rattle.table.proofs.HeldLaws.{its-room}
 use Rattle.texts.specs.Buffer.{Wrote}
 use Rattle.texts.proofs.WroteLaws.{wrote-none, sized, then}
-use Rattle.image.specs.Image.{half, marksBody, serverBody}
+use Rattle.image.specs.Image.{marksBody, serverBody}
 use Rattle.image.proofs.BodyBack.{length-body}
 use Rattle.bodywriters.specs.Written.{bodyOf, figuresBody, Savable}
 use Rattle.marks.proofs.MarkLaws.{trimmed-take}

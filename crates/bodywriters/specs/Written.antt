@@ -3,11 +3,12 @@ use Prim.Native.Nat.{ℕ, _<_}
 use mathlib.Core.List.{List, [], _∷_, _++_}
 use lib.ListN.{getD}
 use Rattle.algorithm.specs.Table.{Table, absent, server}
+use Rattle.algorithm.specs.Actions.{half}
 use Rattle.words.specs.Words.{bytes}
 use Rattle.table.specs.declared.rows.Row.{Row}
 use Rattle.table.specs.Layout.{tableIn}
 use Rattle.table.specs.Slice.{Held}
-use Rattle.image.specs.Image.{half, serverBody, bodies}
+use Rattle.image.specs.Image.{serverBody, bodies}
 
 -- body e of a table's image: 0 is that of the marks, s that of server s
 abbrev pub bodyOf : Table → ℕ → List ℕ

@@ -6,8 +6,9 @@ use mathlib.Core.Path.{_≡_, refl, sym, _∙_}
 use mathlib.Core.List.{List, [], _∷_, _++_, append-assoc, flatten}
 use lib.ListN.{length, getD, take, drop, length-append}
 use lib.Seq.{getD-append-add, take-append-seam, drop-at}
+use Rattle.algorithm.specs.Actions.{half}
 use Rattle.contents.specs.Contents.{firstBody, halfAt, offset, size, stop}
-use Rattle.image.specs.Image.{half, opening, contents}
+use Rattle.image.specs.Image.{opening, contents}
 use Rattle.bodies.specs.Bodies.{body}
 
 -- a number of two bytes is read back

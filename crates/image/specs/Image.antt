@@ -1,15 +1,12 @@
 -- The image of a table: the opening, the contents, the bodies. Assumes nothing.
-use Prim.Native.Nat.{ℕ, _+_, _/_, _%_}
+use Prim.Native.Nat.{ℕ, _+_}
 use mathlib.Core.List.{List, [], _∷_, _++_, map, flatten}
 use lib.ListN.{length}
 use Rattle.algorithm.specs.Table.{Server, Table, count, trimmed}
+use Rattle.algorithm.specs.Actions.{half}
 use Rattle.words.specs.Words.{bytes}
 use Rattle.table.specs.Layout.{terms}
 use Rattle.contents.specs.Contents.{firstBody}
-
--- a number in two bytes, the low byte first
-abbrev pub half : ℕ → List ℕ
-half v = v % 256 ∷ v / 256 % 256 ∷ []
 
 -- the letters SITE, the number of servers, three 0
 abbrev pub opening : ℕ → List ℕ

@@ -16,11 +16,11 @@ use Rattle.members.proofs.Masks.{fits, ext, ones-unlike, bit-low, membe
 
 -- ---- a set that is not empty, of servers 1 to n
 
-pub record Within (m n : ℕ) : Type 0 where
+pub record Fits (m n : ℕ) : Type 0 where
   pub some : (s : ℕ) × Member s m
   pub all : (s : ℕ) → Member s m → s ≤ n
 
-pub within-is : {m n : ℕ} → Passes (within m n) → Within m n
+pub within-is : {m n : ℕ} → Passes (within m n) → Fits m n
 within-is {m} {n} t = let (a, b) = both t in record { some = a-member m (less a); all = λ s u. member-le n s (less b) u }
 
 -- members up to n alone stand in the n lowest digits
@@ -42,7 +42,7 @@ low-digits m n all = ext m (m % 2 ^ n) same
         go (yes l) = sym (bit-low k n m l)
         go (no l) = above (suc k) (omega arith) ∙ sym (member-above n (suc k) (mod-lt m (pow-pos n)) (omega arith))
 
-pub is-within : {m n : ℕ} → Within m n → Passes (within m n)
+pub is-within : {m n : ℕ} → Fits m n → Passes (within m n)
 is-within {m} {n} w =
     let low : m < 2 ^ n = omega (arith, low-digits m n (w .all), mod-lt m (pow-pos n)) in
     together (is-less (member-some (w .some .0) m (w .some .1))) (is-less low)

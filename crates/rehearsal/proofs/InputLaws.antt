@@ -18,12 +18,12 @@ use Rattle.image.proofs.Theorems.{not-broken}
 use Rattle.texts.specs.Buffer.{Wrote, WroteShort}
 use Rattle.report.specs.Lines.{badSiteLine, tooLongLine}
 use Rattle.report.specs.Report.{repliedLines, cutLines, tableLines, wholeActions, playedLines}
-use Rattle.rehearsal.specs.Printed.{siteReply, inputLines, printed}
+use Rattle.rehearsal.specs.Printed.{longest, siteReply, inputLines, printed}
 use Rattle.rehearsal.proofs.OrderLaws.{one-line, more-lines}
 
 -- ---- a table and its actions
 
-module _ (t p : List ℕ) (k : ℕ) (t' r' : List ℕ) (small : length p ≤ 65536) (h : Played t (wholeActions p) (replicate 8192 0) k t' r') where
+module _ (t p : List ℕ) (k : ℕ) (t' r' : List ℕ) (small : length p ≤ longest) (h : Played t (wholeActions p) (replicate 8192 0) k t' r') where
   -- how many are played: there is room for the replies of all whole actions
   abbrev n : ℕ
   n = played (wholeActions p) (replicate 8192 0)
@@ -52,15 +52,15 @@ module _ (t p : List ℕ) (k : ℕ) (t' r' : List ℕ) (small : length p ≤ 655
 -- ---- the input
 
 module _ (b b₁ im : List ℕ) (e : ℕ) where
-  pub too-long-shown : 65536 < length im → WroteShort 9 b b₁ 0 tooLongLine e → Wrote b b₁ 0 (printed im) e
+  pub too-long-shown : longest < length im → WroteShort 9 b b₁ 0 tooLongLine e → Wrote b b₁ 0 (printed im) e
   unfolding inputLines
-  too-long-shown h w = rw (lt-ltb 65536 (length im) h) (one-line w .wrote)
+  too-long-shown h w = rw (lt-ltb longest (length im) h) (one-line w .wrote)
 
-  module _ (small : length im ≤ 65536) (z k : ℕ) (slice : List ℕ) (z' : ℕ) (a : ReadAnswer im (replicate tableBytes 0) z k slice z') where
+  module _ (small : length im ≤ longest) (z k : ℕ) (slice : List ℕ) (z' : ℕ) (a : ReadAnswer im (replicate tableBytes 0) z k slice z') where
     pub bad-site-shown : (k ≡ 0 → ⊥) → WroteShort 20 b b₁ 0 (badSiteLine k) e → Wrote b b₁ 0 (printed im) e
     unfolding inputLines
     bad-site-shown h w =
-        rw (le-ltb 65536 (length im) small, ne-eqb (siteReply im) 0 (λ f. h (a .reply ∙ f)), ← a .reply) (one-line w .wrote)
+        rw (le-ltb longest (length im) small, ne-eqb (siteReply im) 0 (λ f. h (a .reply ∙ f)), ← a .reply) (one-line w .wrote)
 
     pub site-shown : k ≡ 0 → Wrote b b₁ 0 (flatten (playedLines (tableIn slice) (take (length im - z') (drop z' im)))) e
         → Wrote b b₁ 0 (printed im) e
@@ -71,4 +71,4 @@ module _ (b b₁ im : List ℕ) (e : ℕ) where
         let rest : take (length im - z') (drop z' im) ≡ drop z' im = take-all (length im - z') (drop z' im) (omega (arith, length-drop z' im)) in
         let table : tableIn slice ≡ readTable im =
         ap tableIn (a .bytes ∙ read-into im (replicate tableBytes 0) k (a .reply) h) ∙ stored-table (readTable im) (not-broken im (replicate tableBytes 0) read) in
-        rw (le-ltb 65536 (length im) small, eq-eqb (siteReply im) 0 read, ← end) (rw (rest, table) at w)
+        rw (le-ltb longest (length im) small, eq-eqb (siteReply im) 0 read, ← end) (rw (rest, table) at w)

@@ -18,15 +18,15 @@ use Rattle.image.proofs.Theorems.{read-back}
 use Rattle.report.specs.Report.{playedLines}
 use Rattle.report.specs.Case.{plan, given, expected}
 use Rattle.report.proofs.Worked.{case-holds}
-use Rattle.rehearsal.specs.Printed.{inputLines}
+use Rattle.rehearsal.specs.Printed.{longest, inputLines}
 
 -- Of an input that begins with the image of a table, the lines are those of that table and of the bytes behind its image.
-pub image-lines : (t : Table) (p : List ℕ) → broken t ≡ false → length (image t ++ p) ≤ 65536 → inputLines (image t ++ p) ≡ playedLines t p
+pub image-lines : (t : Table) (p : List ℕ) → broken t ≡ false → length (image t ++ p) ≤ longest → inputLines (image t ++ p) ≡ playedLines t p
 unfolding inputLines
 image-lines t p h small =
     let slice : List ℕ = replicate tableBytes 0 in
     let (read, table, _, _) = read-back t p slice 0 h (length-replicate {A = ℕ} tableBytes 0) in
-    rw (le-ltb 65536 (length (image t ++ p)) small, eq-eqb _ 0 read, table, end-back t h p, drop-at (image t) p (length (image t)) refl)
+    rw (le-ltb longest (length (image t ++ p)) small, eq-eqb _ 0 read, table, end-back t h p, drop-at (image t) p (length (image t)) refl)
 
 -- ---- the case that document 01 gives whole, from the bytes of its input to those of its output
 
@@ -34,7 +34,7 @@ case-sound : broken (fresh 4 7) ≡ false
 unfolding broken every nth mask ones
 case-sound = refl
 
-case-short : length (image (fresh 4 7) ++ plan) ≤ 65536
+case-short : length (image (fresh 4 7) ++ plan) ≤ longest
 unfolding image contents flatten trimmed bytes
 case-short = omega arith
 

@@ -3,22 +3,22 @@ use Prim.Native.Nat.{ℕ}
 use Prim.Native.String.{String}
 use mathlib.Core.List.{List, [], _∷_, _++_, map}
 use Rattle.algorithm.specs.Table.{fresh}
-use Rattle.algorithm.specs.Cases.{bytes}
+use Rattle.algorithm.specs.Cases.{actionBytes}
 use Rattle.texts.specs.Texts.{text}
 use Rattle.report.specs.Report.{playedLines}
 
 -- the case's nine actions: kind, i, j and the set of each
 abbrev pub plan : List ℕ
 plan =
-    bytes 1 1 0 3
-    ++ bytes 5 1 0 0
-    ++ bytes 6 2 1 0
-    ++ bytes 2 1 0 15
-    ++ bytes 3 1 2 0
-    ++ bytes 2 1 0 15
-    ++ bytes 8 1 0 3
-    ++ bytes 2 1 0 15
-    ++ bytes 1 3 0 6
+    actionBytes 1 1 0 3
+    ++ actionBytes 5 1 0 0
+    ++ actionBytes 6 2 1 0
+    ++ actionBytes 2 1 0 15
+    ++ actionBytes 3 1 2 0
+    ++ actionBytes 2 1 0 15
+    ++ actionBytes 8 1 0 3
+    ++ actionBytes 2 1 0 15
+    ++ actionBytes 1 3 0 6
 
 -- what the case prints, by the definitions
 unfoldable pub given : List (List ℕ)
@@ -43,6 +43,6 @@ lines =
     ∷ "marks 1\n"
     ∷ []
 
--- the same as bytes
+-- the same as actionBytes
 unfoldable pub expected : List (List ℕ)
 expected = map text lines

@@ -12,11 +12,12 @@ use lib.Seq.{take-all, take-add, getD-drop, getD-at, length-take-le}
 use Rattle.members.proofs.Tests.{Passes, both, refuted, equal}
 use Rattle.algorithm.specs.Table.{absent, every}
 use Rattle.algorithm.proofs.Refused.{first-later}
+use Rattle.algorithm.specs.Actions.{half}
 use Rattle.table.proofs.BoolLaws.{three}
 use Rattle.contents.specs.Contents.{firstBody, opened, countIn, offset, size, stop, start, fixed, mayHave, laid, laidOut}
 use Rattle.contents.proofs.BelowLaws.{all-below}
 use Rattle.bodies.specs.Bodies.{body, serverIn, soundAt, soundBodies}
-use Rattle.image.specs.Image.{half, opening, serverBody, bodies, contents, image}
+use Rattle.image.specs.Image.{opening, serverBody, bodies, contents, image}
 use Rattle.image.specs.Reader.{readRefusals, readReply, serversTo, readTable, readEnd}
 use Rattle.image.proofs.FillLaws.{length-servers}
 use Rattle.image.proofs.ReplyLaws.{Readable, readable}
