@@ -45,7 +45,7 @@ pub fn roll_back(t: &mut [u8], i: usize)
     pop(t, i);
 }
 
-// So does the set that i commits by.
+// The set that i commits by decides whether it may, and not what is marked.
 pub fn commit(t: &mut [u8], i: usize)
     requires { ⌜ Held (now t) ⌝ }
     requires { ⌜ Within (now t) i ⌝ }
