@@ -1,5 +1,6 @@
 // The vocabulary of the engine: three counters that cannot stand for one another, the set that an action names, and the reply to it.
 ghost use mathlib.Core.Path.{_≡_};
+ghost use lib.Dec.{ltb, eqb};
 ghost use lib.ListN.{length};
 ghost use Rattle.algorithm.specs.Actions.{pairOf, setOf};
 ghost use Rattle.algorithm.specs.Reply.{numberOf};
@@ -23,6 +24,37 @@ pub const CEILING: u32 = 1_000_000_000;
 
 // How many positions a log, and the marks, have room for.
 pub const POSITIONS: u8 = 64;
+
+// Counters are compared as what they are, so that a version cannot stand where a term is compared.
+pub fn term_is(a: Term, b: Term) -> bool
+    ensures { λ r. ⌜ r ≡ eqb (a .0) (b .0) ⌝ }
+{
+    a.0 == b.0
+}
+
+pub fn term_below(a: Term, b: Term) -> bool
+    ensures { λ r. ⌜ r ≡ ltb (a .0) (b .0) ⌝ }
+{
+    a.0 < b.0
+}
+
+pub fn version_is(v: Version, w: Version) -> bool
+    ensures { λ r. ⌜ r ≡ eqb (v .0) (w .0) ⌝ }
+{
+    v.0 == w.0
+}
+
+pub fn version_below(v: Version, w: Version) -> bool
+    ensures { λ r. ⌜ r ≡ ltb (v .0) (w .0) ⌝ }
+{
+    v.0 < w.0
+}
+
+pub fn position_below(p: Position, q: Position) -> bool
+    ensures { λ r. ⌜ r ≡ ltb (p .0) (q .0) ⌝ }
+{
+    p.0 < q.0
+}
 
 // A number of two bytes, the low one first.
 pub fn pair(low: u8, high: u8) -> u16
