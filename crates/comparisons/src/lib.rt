@@ -11,6 +11,11 @@ ghost use Rattle.table.specs.Slice.{Held, Within};
 use algorithm::Position;
 use algorithm::Term;
 use algorithm::Version;
+use algorithm::position_below;
+use algorithm::term_below;
+use algorithm::term_is;
+use algorithm::version_below;
+use algorithm::version_is;
 use table::rows::config_of;
 use table::rows::entry_of;
 use table::rows::last_of;
@@ -31,13 +36,13 @@ pub fn lacks_role(t: &[u8], i: usize, role: u32) -> bool
 fn is_newer(a: Term, v: Version, b: Term, w: Version) -> bool
     ensures { λ r. ⌜ r ≡ later (a .0) (v .0) (b .0) (w .0) ⌝ }
 {
-    (b.0 < a.0) | (a.0 == b.0) & (w.0 < v.0)
+    term_below(b, a) | term_is(a, b) & version_below(w, v)
 }
 
 fn is_ahead(a: Term, p: Position, b: Term, q: Position) -> bool
     ensures { λ r. ⌜ r ≡ later (a .0) (p .0) (b .0) (q .0) ⌝ }
 {
-    (b.0 < a.0) | (a.0 == b.0) & (q.0 < p.0)
+    term_below(b, a) | term_is(a, b) & position_below(q, p)
 }
 
 pub fn larger_term(t: &[u8], i: usize, s: usize) -> bool
@@ -46,7 +51,7 @@ pub fn larger_term(t: &[u8], i: usize, s: usize) -> bool
     requires { ⌜ Within (now t) s ⌝ }
     ensures { λ r. ⌜ r ≡ largerTerm (tableIn (now (t .entry))) i s ⌝ }
 {
-    term_of(t, i).0 < term_of(t, s).0
+    term_below(term_of(t, i), term_of(t, s))
 }
 
 pub fn newer_config(t: &[u8], i: usize, s: usize) -> bool
@@ -83,7 +88,7 @@ pub fn same_config(t: &[u8], i: usize, s: usize) -> bool
     requires { ⌜ Within (now t) s ⌝ }
     ensures { λ r. ⌜ r ≡ sameConfig (tableIn (now (t .entry))) i s ⌝ }
 {
-    (version_of(t, s).0 == version_of(t, i).0) & (config_of(t, s).0 == config_of(t, i).0)
+    version_is(version_of(t, s), version_of(t, i)) & term_is(config_of(t, s), config_of(t, i))
 }
 
 pub fn same_term(t: &[u8], i: usize, s: usize) -> bool
@@ -92,7 +97,7 @@ pub fn same_term(t: &[u8], i: usize, s: usize) -> bool
     requires { ⌜ Within (now t) s ⌝ }
     ensures { λ r. ⌜ r ≡ sameTerm (tableIn (now (t .entry))) i s ⌝ }
 {
-    term_of(t, s).0 == term_of(t, i).0
+    term_is(term_of(t, s), term_of(t, i))
 }
 
 // The log of server s has the term at a position.
@@ -105,7 +110,7 @@ pub fn holds(t: &[u8], s: usize, p: Position, term: Term) -> bool
     if p.0 == 0 {
         return false;
     }
-    (p.0 <= length_of(t, s).0) & (entry_of(t, s, p).0 == term.0)
+    !position_below(length_of(t, s), p) & term_is(entry_of(t, s, p), term)
 }
 
 // Server s has the term of server i, and an entry of it at a position.
@@ -130,7 +135,7 @@ pub fn joins(t: &[u8], i: usize, j: usize) -> bool
     if p.0 == 0 {
         return true;
     }
-    last_of(t, i).0 == entry_of(t, j, p).0
+    term_is(last_of(t, i), entry_of(t, j, p))
 }
 
 // The log of server i is the beginning of that of server j.
@@ -140,15 +145,15 @@ pub fn is_prefix(t: &[u8], i: usize, j: usize) -> bool
     requires { ⌜ Within (now t) j ⌝ }
     ensures { λ r. ⌜ r ≡ prefix (server (tableIn (now (t .entry))) i .log) (server (tableIn (now (t .entry))) j .log) ⌝ }
 {
-    let n = length_of(t, i).0;
-    if length_of(t, j).0 < n {
+    let n = length_of(t, i);
+    if position_below(length_of(t, j), n) {
         return false;
     }
     let mut ok = true;
     let mut k: u8 = 0;
-    while k < n {
+    while k < n.0 {
         k += 1;
-        ok = ok & (entry_of(t, i, Position(k)).0 == entry_of(t, j, Position(k)).0);
+        ok = ok & term_is(entry_of(t, i, Position(k)), entry_of(t, j, Position(k)));
     }
     ok
 }

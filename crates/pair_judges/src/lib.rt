@@ -8,6 +8,8 @@ ghost use Rattle.form.specs.Refused.{holdsIn};
 use algorithm::POSITIONS;
 use algorithm::PRIMARY;
 use algorithm::SECONDARY;
+use algorithm::position_below;
+use algorithm::term_below;
 use comparisons::is_prefix;
 use comparisons::joins;
 use comparisons::lacks_role;
@@ -71,7 +73,7 @@ fn cannot_fetch(t: &[u8], i: usize, j: usize) -> bool
     requires { ⌜ Within (now t) j ⌝ }
     ensures { λ r. ⌜ r ≡ holdsIn 20 (fetchRefusals (tableIn (now (t .entry))) i j) ⌝ }
 {
-    !(length_of(t, i).0 < length_of(t, j).0) | !joins(t, i, j)
+    !position_below(length_of(t, i), length_of(t, j)) | !joins(t, i, j)
 }
 
 pub fn judge_fetch(t: &[u8], i: usize, j: usize) -> u8
@@ -95,7 +97,7 @@ fn cannot_roll_back(t: &[u8], i: usize, j: usize) -> bool
     requires { ⌜ Within (now t) j ⌝ }
     ensures { λ r. ⌜ r ≡ holdsIn 21 (rollBackRefusals (tableIn (now (t .entry))) i j) ⌝ }
 {
-    if last_of(t, i).0 < last_of(t, j).0 {
+    if term_below(last_of(t, i), last_of(t, j)) {
         return is_prefix(t, i, j);
     }
     true

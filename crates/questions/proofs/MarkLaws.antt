@@ -9,7 +9,7 @@ use mathlib.Core.List.{List, [], _∷_}
 use lib.Dec.{eqb}
 use lib.ListN.{length, getD, take, drop, length-drop}
 use lib.Seq.{getD-drop, take-all}
-use borrow.Author.Tests.{eq-eqb, ne-eqb, not-true}
+use borrow.Author.Tests.{not-true}
 use Rattle.members.specs.Members.{passing}
 use Rattle.members.proofs.Masks.{and-both}
 use Rattle.algorithm.specs.Table.{nth, Table, count, server, mark, positions}
@@ -48,9 +48,9 @@ module _ {b : List ℕ} (held : Held b) (o v : ℕ) where
   unfolding someMarked
   marked-none = refl
 
-  pub marked-next : (k n : ℕ) (r : Bool) (m w : ℕ) → o + n ≤ 64 → k < n → r ≡ someMarked (part (t .marks) o k) v → m ≡ mark t (o + (k + 1)) → w ≡ v
-      → (eqb m w || r) ≡ someMarked (part (t .marks) o (k + 1)) v
-  marked-next k n r m w l h e f g = rw (e, f, g, add-one) (sym (marked-more k (omega arith)))
+  pub marked-next : (k n m w : ℕ) (r s : Bool) → o + n ≤ 64 → k < n → r ≡ someMarked (part (t .marks) o k) v → s ≡ eqb m w → m ≡ mark t (o + (k + 1)) → w ≡ v
+      → (s || r) ≡ someMarked (part (t .marks) o (k + 1)) v
+  marked-next k n m w r s l h e c f g = rw (e, c, f, g, add-one) (sym (marked-more k (omega arith)))
 
   pub marked-all : (k n : ℕ) (r : Bool) → k ≤ n → n ≤ k → r ≡ someMarked (part (t .marks) o k) v → r ≡ someMarked (part (t .marks) o n) v
   marked-all k n r l h e = let all : k ≡ n = omega arith in rw all at e
@@ -94,13 +94,12 @@ module _ (o : ℕ) (t : Table) (i q : ℕ) where
 
 -- ---- every marked position is held
 
-module _ (t : Table) (i q p x v : ℕ) (e : x ≡ mark t p) (f : v ≡ server t i .term) where
-  pub marked-at : (r : ℕ) → x ≡ v → r ≡ passing (count t) (supportsAt t i p) q
-      → r ≡ narrowedAt t i p q
-  marked-at r h g = rw (eq-eqb (mark t p) (server t i .term) (sym e ∙ h ∙ f)) g
+module _ (t : Table) (i q p x v : ℕ) (s : Bool) (o : s ≡ eqb x v) (e : x ≡ mark t p) (f : v ≡ server t i .term) where
+  pub marked-at : (r : ℕ) → s ≡ true → r ≡ passing (count t) (supportsAt t i p) q → r ≡ narrowedAt t i p q
+  marked-at r h g = rw (← e, ← f, ← o, h) g
 
-  pub marked-not : (x ≡ v → ⊥) → q ≡ narrowedAt t i p q
-  marked-not h = rw (ne-eqb (mark t p) (server t i .term) (λ g. h (e ∙ g ∙ sym f)))
+  pub marked-not : s ≡ false → q ≡ narrowedAt t i p q
+  marked-not h = rw (← e, ← f, ← o, h)
 
 module _ (t : Table) (i q : ℕ) where
   -- server s has i's term and holds what is marked with it at positions 1 to k

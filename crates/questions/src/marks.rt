@@ -11,6 +11,7 @@ ghost use Rattle.table.specs.Slice.{Held, Within};
 ghost use Rattle.questions.specs.Marks.{narrowedAt, narrowedPast};
 use crate::shares::supporters;
 use algorithm::Position;
+use algorithm::term_is;
 use table::rows::mark_of;
 use table::rows::term_of;
 
@@ -21,12 +22,12 @@ pub fn is_marked(t: &[u8], i: usize, from: u8, n: u8) -> bool
     requires { ⌜ from + n ≤ positions ⌝ }
     ensures { λ r. ⌜ r ≡ someMarked (part (tableIn (now (t .entry)) .marks) from n) (server (tableIn (now (t .entry))) i .term) ⌝ }
 {
-    let term = term_of(t, i).0;
+    let term = term_of(t, i);
     let mut some = false;
     let mut k: u8 = 0;
     while k < n {
         k += 1;
-        some = (mark_of(t, Position(from + k)).0 == term) | some;
+        some = term_is(mark_of(t, Position(from + k)), term) | some;
     }
     some
 }
@@ -38,7 +39,7 @@ fn narrowed_at(t: &[u8], i: usize, q: u16, p: Position) -> u16
     requires { ⌜ (1 ≤ p .0) × (p .0 ≤ positions) ⌝ }
     ensures { λ r. ⌜ r ≡ narrowedAt (tableIn (now (t .entry))) i (p .0) q ⌝ }
 {
-    if mark_of(t, p).0 == term_of(t, i).0 {
+    if term_is(mark_of(t, p), term_of(t, i)) {
         return supporters(t, i, q, p);
     }
     q

@@ -38,11 +38,15 @@ module _ (x a : ℕ) (e : x ≡ a) (m : ℕ) (r : Bool) where
   pub apart-told : r ≡ oneApart x m → r ≡ oneApart a m
   apart-told f = rw e at f
 
-pub lacks-told : (x y z a b c : ℕ) → x ≡ a → y ≡ b → z ≡ c → (eqb x 0 || not (eqb y z)) ≡ (eqb a 0 || not (eqb b c))
-lacks-told x y z a b c e f g = rw (e, f, g)
+pub last-told : (x a k : ℕ) → x ≡ a → eqb x k ≡ eqb a k
+last-told x a k e = rw e
 
-pub otherwise-told : (t : Table) (x y p q c : ℕ) → x ≡ mark t p → p ≡ q → y ≡ c → (not (eqb x 0) && not (eqb x y)) ≡ (not (eqb (mark t q) 0) && not (eqb (mark t q) c))
-otherwise-told t x y p q c e f g = rw (e, f, g)
+pub lacks-told : (x a : ℕ) (r b : Bool) → x ≡ a → r ≡ b → (eqb x 0 || not r) ≡ (eqb a 0 || not b)
+lacks-told x a r b e f = rw (e, f)
+
+pub otherwise-told : (t : Table) (x y p q c : ℕ) (r : Bool) → r ≡ eqb x y → x ≡ mark t p → p ≡ q → y ≡ c
+    → (not (eqb x 0) && not r) ≡ (not (eqb (mark t q) 0) && not (eqb (mark t q) c))
+otherwise-told t x y p q c r o e f g = rw (o, e, f, g)
 
 -- what finds the first refusal from tests on sets
 pub ruleset weighing = (judging, some-told, most-told, all-told)

@@ -13,6 +13,7 @@ ghost use Rattle.form.specs.Refused.{holdsIn};
 use algorithm::CEILING;
 use algorithm::POSITIONS;
 use algorithm::PRIMARY;
+use algorithm::term_is;
 use comparisons::lacks_role;
 use members::is_majority;
 use members::is_member;
@@ -147,7 +148,7 @@ fn lacks_entry(t: &[u8], i: usize) -> bool
     requires { ⌜ Within (now t) i ⌝ }
     ensures { λ r. ⌜ r ≡ holdsIn 22 (commitRefusals (tableIn (now (t .entry))) i 0) ⌝ }
 {
-    (length_of(t, i).0 == 0) | (last_of(t, i).0 != term_of(t, i).0)
+    (length_of(t, i).0 == 0) | !term_is(last_of(t, i), term_of(t, i))
 }
 
 // Refusal 24, whatever the set: it is asked where 22 does not hold, so the log has an entry.
@@ -158,7 +159,7 @@ fn is_marked_otherwise(t: &[u8], i: usize) -> bool
     ensures { λ r. ⌜ r ≡ holdsIn 24 (commitRefusals (tableIn (now (t .entry))) i 0) ⌝ }
 {
     let m = mark_of(t, length_of(t, i));
-    (m.0 != 0) & (m.0 != term_of(t, i).0)
+    (m.0 != 0) & !term_is(m, term_of(t, i))
 }
 
 pub fn judge_commit(t: &[u8], i: usize, q: u16) -> u8

@@ -9,16 +9,19 @@ use Rattle.comparisons.proofs.is_prefix.Statement.{statement}
 use Rattle.comparisons.proofs.is_prefix.Tie as tie
 
 abbrev Inv-loop : tie.InvT-loop
-Inv-loop t i j n ok₀ k₀ ok k = (k ≤ n) × PrefixFrom k (server (tableIn t) i .log) (server (tableIn t) j .log) ok
+Inv-loop t i j n ok₀ k₀ ok k = (k ≤ n .0) × PrefixFrom k (server (tableIn t) i .log) (server (tableIn t) j .log) ok
 
 abbrev μ-loop : tie.MeasureT-loop
-μ-loop t i j n ok₀ k₀ ok k = n - k
+μ-loop t i j n ok₀ k₀ ok k = n .0 - k
 
 length-of-requires : tie.Need-length-of-requires Inv-loop μ-loop
 length-of-requires c κs = search needs
 
 length-of-requires-2 : tie.Need-length-of-requires-2 Inv-loop μ-loop
 length-of-requires-2 c κs = search needs
+
+position-below-requires : tie.Need-position-below-requires Inv-loop μ-loop
+position-below-requires c κs = search needs
 
 returns : tie.Need-returns Inv-loop μ-loop
 returns c = search (needs, prefix-long)
@@ -34,6 +37,9 @@ entry-of-requires c κs = search needs
 
 entry-of-requires-2 : tie.Need-entry-of-requires-2 Inv-loop μ-loop
 entry-of-requires-2 c κs = search needs
+
+term-is-requires : tie.Need-term-is-requires Inv-loop μ-loop
+term-is-requires c κs = search needs
 
 loop-less : tie.Need-loop-less Inv-loop μ-loop
 loop-less c = search needs
@@ -53,11 +59,13 @@ is-prefix-spec =
     μ-loop
     length-of-requires
     length-of-requires-2
+    position-below-requires
     returns
     loop-holds
     add-k
     entry-of-requires
     entry-of-requires-2
+    term-is-requires
     loop-less
     loop-again
     returns-2)

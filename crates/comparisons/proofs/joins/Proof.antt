@@ -16,9 +16,12 @@ last-of-requires c κs = search needs
 entry-of-requires : tie.Need-entry-of-requires
 entry-of-requires c κs = search needs
 
+term-is-requires : tie.Need-term-is-requires
+term-is-requires c κs = search needs
+
 returns-2 : tie.Need-returns-2
 returns-2 c = search (needs, joins-at)
 
 pub joins-spec : {M : Type 1} → statement M
 joins-spec =
-    tie.close (tie.spec length-of-requires returns last-of-requires entry-of-requires returns-2)
+    tie.close (tie.spec length-of-requires returns last-of-requires entry-of-requires term-is-requires returns-2)

@@ -11,11 +11,17 @@ version-of-requires c κs = search needs
 version-of-requires-2 : tie.Need-version-of-requires-2
 version-of-requires-2 c κs = search needs
 
+version-is-requires : tie.Need-version-is-requires
+version-is-requires c κs = search needs
+
 config-of-requires : tie.Need-config-of-requires
 config-of-requires c κs = search needs
 
 config-of-requires-2 : tie.Need-config-of-requires-2
 config-of-requires-2 c κs = search needs
+
+term-is-requires : tie.Need-term-is-requires
+term-is-requires c κs = search needs
 
 returns : tie.Need-returns
 returns c = search (needs, equal-told, and-told)
@@ -26,6 +32,8 @@ same-config-spec =
     (tie.spec
     version-of-requires
     version-of-requires-2
+    version-is-requires
     config-of-requires
     config-of-requires-2
+    term-is-requires
     returns)

@@ -1,6 +1,6 @@
 -- `set_judges::is_last_term` meets its contract. Assumes nothing.
 use borrow.Author.Needs.{needs}
-use Rattle.comparisons.proofs.FigureLaws.{equal-told}
+use Rattle.set_judges.proofs.SetLaws.{last-told}
 use Rattle.set_judges.proofs.is_last_term.Statement.{statement}
 use Rattle.set_judges.proofs.is_last_term.Tie as tie
 
@@ -8,7 +8,7 @@ term-of-requires : tie.Need-term-of-requires
 term-of-requires c κs = search needs
 
 returns : tie.Need-returns
-returns c = search (needs, equal-told)
+returns c = search (needs, last-told)
 
 pub is-last-term-spec : {M : Type 1} → statement M
 is-last-term-spec = tie.close (tie.spec term-of-requires returns)

@@ -1,6 +1,6 @@
 -- `set_judges::is_last_version` meets its contract. Assumes nothing.
 use borrow.Author.Needs.{needs}
-use Rattle.comparisons.proofs.FigureLaws.{equal-told}
+use Rattle.set_judges.proofs.SetLaws.{last-told}
 use Rattle.set_judges.proofs.is_last_version.Statement.{statement}
 use Rattle.set_judges.proofs.is_last_version.Tie as tie
 
@@ -8,7 +8,7 @@ version-of-requires : tie.Need-version-of-requires
 version-of-requires c κs = search needs
 
 returns : tie.Need-returns
-returns c = search (needs, equal-told)
+returns c = search (needs, last-told)
 
 pub is-last-version-spec : {M : Type 1} → statement M
 is-last-version-spec = tie.close (tie.spec version-of-requires returns)

@@ -13,9 +13,12 @@ mark-of-requires c κs = search (needs, has-entry)
 term-of-requires : tie.Need-term-of-requires
 term-of-requires c κs = search needs
 
+term-is-requires : tie.Need-term-is-requires
+term-is-requires c κs = search needs
+
 returns : tie.Need-returns
 returns c = search (needs, otherwise-told)
 
 pub is-marked-otherwise-spec : {M : Type 1} → statement M
 is-marked-otherwise-spec =
-    tie.close (tie.spec length-of-requires mark-of-requires term-of-requires returns)
+    tie.close (tie.spec length-of-requires mark-of-requires term-of-requires term-is-requires returns)

@@ -12,7 +12,7 @@ use Rattle.questions.proofs.marks.is_marked.Tie as tie
 
 abbrev Inv-loop : tie.InvT-loop
 Inv-loop t i from n term some₀ k₀ some k =
-    (k ≤ n) × (term ≡ server (tableIn t) i .term) × (some ≡ someMarked (part (tableIn t .marks) from k) (server (tableIn t) i .term))
+    (k ≤ n) × (term .0 ≡ server (tableIn t) i .term) × (some ≡ someMarked (part (tableIn t .marks) from k) (server (tableIn t) i .term))
 
 abbrev μ-loop : tie.MeasureT-loop
 μ-loop t i from n term some₀ k₀ some k = n - k
@@ -26,11 +26,14 @@ loop-holds c = search (needs, marked-none)
 add-k : tie.Need-add-k Inv-loop μ-loop
 add-k c = search needs
 
-add-t11 : tie.Need-add-t11 Inv-loop μ-loop
-add-t11 c = search needs
+add-t10 : tie.Need-add-t10 Inv-loop μ-loop
+add-t10 c = search needs
 
 mark-of-requires : tie.Need-mark-of-requires Inv-loop μ-loop
 mark-of-requires c κs = search needs
+
+term-is-requires : tie.Need-term-is-requires Inv-loop μ-loop
+term-is-requires c κs = search needs
 
 loop-less : tie.Need-loop-less Inv-loop μ-loop
 loop-less c = search needs
@@ -50,8 +53,9 @@ is-marked-spec =
     term-of-requires
     loop-holds
     add-k
-    add-t11
+    add-t10
     mark-of-requires
+    term-is-requires
     loop-less
     loop-again
     returns)

@@ -10,6 +10,9 @@ mark-of-requires c κs = search needs
 term-of-requires : tie.Need-term-of-requires
 term-of-requires c κs = search needs
 
+term-is-requires : tie.Need-term-is-requires
+term-is-requires c κs = search needs
+
 supporters-requires : tie.Need-supporters-requires
 supporters-requires c κs = search needs
 
@@ -21,4 +24,4 @@ returns-2 c = search (needs, marked-not)
 
 pub narrowed-at-spec : {M : Type 1} → statement M
 narrowed-at-spec =
-    tie.close (tie.spec mark-of-requires term-of-requires supporters-requires returns returns-2)
+    tie.close (tie.spec mark-of-requires term-of-requires term-is-requires supporters-requires returns returns-2)
