@@ -1,4 +1,4 @@
-// The vocabulary of the engine: three counters that cannot stand for one another, the set that an action names, and the reply to it.
+// The vocabulary of the engine: roles, three counters that cannot stand for one another, the set that an action names, and the reply to it.
 ghost use mathlib.Core.Path.{_≡_};
 ghost use lib.Dec.{ltb, eqb};
 ghost use lib.ListN.{length};

@@ -2,7 +2,7 @@
 use Prim.Native.Nat.{ℕ, _+_, _*_, _≤_}
 use mathlib.Core.List.{List}
 use lib.ListN.{length}
-use Rattle.algorithm.specs.Table.{Server}
+use Rattle.algorithm.specs.Table.{Server, positions}
 use Rattle.contents.specs.Contents.{countIn, size, stop, firstBody, fixed}
 use Rattle.bodies.specs.declared.Figures.{Figures}
 
@@ -11,17 +11,17 @@ pub record Names (im : List ℕ) (e : ℕ) : Type 0 where
   pub there : 12 + 4 * e ≤ length im
   pub within : stop im e ≤ length im
   pub least : fixed e ≤ size im e
-  pub most : size im e ≤ fixed e + 256
+  pub most : size im e ≤ fixed e + 4 * positions
 
 -- the contents are in the input, and every entry is so
 pub record Named (im : List ℕ) : Type 0 where
   pub complete : firstBody (countIn im) ≤ length im
   pub each : (e : ℕ) → e ≤ countIn im → Names im e
 
--- the part has 16 to 272 bytes
+-- the part may be the body of a server, by its length
 pub record Sized (b : List ℕ) : Type 0 where
   pub least : 16 ≤ length b
-  pub most : length b ≤ 272
+  pub most : length b ≤ 16 + 4 * positions
 
 -- a server's figures by value
 abbrev pub figuresOf : Server → Figures

@@ -3,7 +3,7 @@ ghost use mathlib.Core.Path.{_≡_};
 ghost use mathlib.Core.List.{[], _∷_};
 ghost use Prim.Native.Nat.{_+_, _*_, _≤_, _<_};
 ghost use lib.ListN.{length};
-ghost use Rattle.algorithm.specs.Table.{count, server};
+ghost use Rattle.algorithm.specs.Table.{count, server, positions};
 ghost use Rattle.algorithm.specs.Actions.{half};
 ghost use Rattle.words.specs.Words.{bytes};
 ghost use Rattle.table.specs.Layout.{terms, tableIn};
@@ -42,7 +42,7 @@ fn put_number(buffer: &mut [u8], at: usize, v: u32) -> usize
 pub fn size_of(t: &[u8], e: usize) -> usize
     requires { ⌜ Savable (now t) ⌝ }
     requires { ⌜ e ≤ count (tableIn (now t)) ⌝ }
-    ensures { λ r. ⌜ (r ≡ length (bodyOf (tableIn (now (t .entry))) e)) × (r ≤ 272) ⌝ }
+    ensures { λ r. ⌜ (r ≡ length (bodyOf (tableIn (now (t .entry))) e)) × (r ≤ 16 + 4 * positions) ⌝ }
 {
     if 1 <= e {
         return 16 + 4 * (length_of(t, e).0 as usize);

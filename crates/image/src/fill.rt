@@ -1,7 +1,7 @@
 // A slice filled with the table of an image that is judged already. A body is read from the part of the image that its entry names.
 ghost use mathlib.Core.Path.{_≡_};
 ghost use mathlib.Core.List.{[]};
-ghost use Prim.Native.Nat.{_≤_};
+ghost use Prim.Native.Nat.{_*_, _≤_};
 ghost use lib.ListN.{length, replicate};
 ghost use Rattle.algorithm.specs.Table.{server, withServer, changed, withLog, positions, mostServers};
 ghost use Rattle.table.specs.Layout.{tableBytes, tableIn};
@@ -68,7 +68,7 @@ fn put_server(t: &mut [u8], s: usize, b: &[u8])
 fn put_marks(t: &mut [u8], b: &[u8])
     requires { ⌜ Held (now t) ⌝ }
     requires { ⌜ tableIn (now t) .marks ≡ replicate positions 0 ⌝ }
-    requires { ⌜ length (now b) ≤ 256 ⌝ }
+    requires { ⌜ length (now b) ≤ 4 * positions ⌝ }
     ensures { λ _. ⌜ Became (now (t .entry)) (now (t .exit)) (withMarks (marksIn (now (b .entry))) (tableIn (now (t .entry)))) ⌝ }
 {
     let n = (b.len() / 4) as u8;

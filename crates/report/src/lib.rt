@@ -21,7 +21,7 @@ use texts::put_word;
 // The longest input of the programs, and the most pieces of 8 bytes that such an input has.
 pub const MOST: usize = 65536;
 
-pub const PIECES: usize = 8192;
+pub const PIECES: usize = MOST / 8;
 
 // Action k has the reply r, 0 for taken.
 pub fn replied_line(buffer: &mut [u8], at: usize, k: u32, r: u8) -> usize
