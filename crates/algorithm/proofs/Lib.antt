@@ -1,4 +1,5 @@
 -- What is proved of the algorithm.
+pub mod Answers
 pub mod Worked
 pub mod Choice
 pub mod Lists
