@@ -43,6 +43,6 @@ lines =
     ∷ "marks 1\n"
     ∷ []
 
--- the same as actionBytes
+-- the same as bytes
 unfoldable pub expected : List (List ℕ)
 expected = map text lines
