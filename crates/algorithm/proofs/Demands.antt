@@ -43,6 +43,51 @@ never-given t safe [] k z = omega arith
 never-given t safe (a ∷ p) zero z = step-not-24 t safe a z
 never-given t safe (a ∷ p) (suc k) z = never-given (step t a .table) (safe-step t a safe) p k z
 
+-- ---- actions one after another, from a fresh table
+
+-- After any list of actions, each of which is any list of numbers, short, long or unknown ones among them.
+module _ (n M : ℕ) (plan : List (List ℕ)) where
+  abbrev pub left : Table
+  left = play (fresh n M) plan .table
+
+  -- the terms won rise, so that no term is won by two elections
+  pub won-rise : Rising 0 (wonAlong (fresh n M) plan)
+  won-rise = wins-rise (core-fresh n M) (moves (fresh n M) plan)
+
+  -- refusal 24 is never given
+  pub not-given-24 : (j : ℕ) → getD (play (fresh n M) plan .replies) j 0 ≢ 24
+  not-given-24 = never-given (fresh n M) (safe-fresh n M) plan
+
+  safe : Safe (view left)
+  safe = play-keeps (λ t. Safe (view t)) safe-step (fresh n M) plan (safe-fresh n M)
+
+  leads : (i : ℕ) → T (primary (server left i)) → Leads (core left) i (server left i .config)
+  leads i p = record { primary = eqb-yes p; is = refl }
+
+  -- a primary's configuration term is its term, so that a reconfiguration puts the term that 000 puts
+  pub primary-own-term : (i : ℕ) → T (primary (server left i)) → server left i .config .term ≡ server left i .term
+  primary-own-term i p = safe .configs .own (leads i p)
+
+  -- every primary holds, at its position, each entry marked with a term not above its own
+  pub primary-complete : (i p : ℕ) → T (primary (server left i)) → 0 < mark left p → mark left p ≤ server left i .term
+      → T (held (server left i .log) p (mark left p))
+  primary-complete i p leader marked below =
+      is-held (safe .logs .leads (leads i leader) .complete (record { is = refl; positive = marked }) (omega (arith, primary-own-term i leader))) .yes
+
+  -- a term has one primary at most
+  pub sole-primary : (i j : ℕ) → T (primary (server left i)) → T (primary (server left j))
+      → server left i .term ≡ server left j .term → i ≡ j
+  sole-primary i j p q e =
+      safe .configs .sole (leads i p) (leads j q) (primary-own-term i p ∙ e ∙ sym (primary-own-term j q))
+
+  -- two logs that have the same term at a position agree up to there
+  pub logs-agree : (i j p u : ℕ) → T (held (server left i .log) p u) → T (held (server left j .log) p u)
+      → (r : ℕ) → r ≤ p → termAt (server left i .log) r ≡ termAt (server left j .log) r
+  logs-agree i j p u h g =
+      let a : HasEntry (server left i .log) p u = held-is (record { yes = h }) in
+      let b : HasEntry (server left j .log) p u = held-is (record { yes = g }) in
+      safe .logs .agree {m = i} {n = j} a b (omega arith)
+
 -- ---- runs from a fresh table
 
 -- After the first k actions of a plan. The whole plan has `pieceCount plan` of them; beyond it actions are empty, and refused.
@@ -50,40 +95,23 @@ module _ (n M : ℕ) (plan : List ℕ) (k : ℕ) where
   abbrev pub end : Table
   end = runTo k (fresh n M) plan .table
 
-  -- the terms won rise, so that no term is won by two elections
   pub terms-rise : Rising 0 (termsWon k (fresh n M) plan)
-  terms-rise = wins-rise (core-fresh n M) (moves (fresh n M) (pieces k plan))
+  terms-rise = won-rise n M (pieces k plan)
 
-  -- refusal 24 is never given
   pub never-24 : (j : ℕ) → getD (runTo k (fresh n M) plan .replies) j 0 ≢ 24
-  never-24 = never-given (fresh n M) (safe-fresh n M) (pieces k plan)
+  never-24 = not-given-24 n M (pieces k plan)
 
-  safe : Safe (view end)
-  safe = play-keeps (λ t. Safe (view t)) safe-step (fresh n M) (pieces k plan) (safe-fresh n M)
-
-  leads : (i : ℕ) → T (primary (server end i)) → Leads (core end) i (server end i .config)
-  leads i p = record { primary = eqb-yes p; is = refl }
-
-  -- a primary's configuration term is its term, so that a reconfiguration puts the term that 000 puts
   pub own-term : (i : ℕ) → T (primary (server end i)) → server end i .config .term ≡ server end i .term
-  own-term i p = safe .configs .own (leads i p)
+  own-term = primary-own-term n M (pieces k plan)
 
-  -- every primary holds, at its position, each entry marked with a term not above its own
   pub primaries-complete : (i p : ℕ) → T (primary (server end i)) → 0 < mark end p → mark end p ≤ server end i .term
       → T (held (server end i .log) p (mark end p))
-  primaries-complete i p leader marked below =
-      is-held (safe .logs .leads (leads i leader) .complete (record { is = refl; positive = marked }) (omega (arith, own-term i leader))) .yes
+  primaries-complete = primary-complete n M (pieces k plan)
 
-  -- a term has one primary at most
   pub one-primary : (i j : ℕ) → T (primary (server end i)) → T (primary (server end j))
       → server end i .term ≡ server end j .term → i ≡ j
-  one-primary i j p q e =
-      safe .configs .sole (leads i p) (leads j q) (own-term i p ∙ e ∙ sym (own-term j q))
+  one-primary = sole-primary n M (pieces k plan)
 
-  -- two logs that have the same term at a position agree up to there
   pub logs-match : (i j p u : ℕ) → T (held (server end i .log) p u) → T (held (server end j .log) p u)
       → (r : ℕ) → r ≤ p → termAt (server end i .log) r ≡ termAt (server end j .log) r
-  logs-match i j p u h g =
-      let a : HasEntry (server end i .log) p u = held-is (record { yes = h }) in
-      let b : HasEntry (server end j .log) p u = held-is (record { yes = g }) in
-      safe .logs .agree {m = i} {n = j} a b (omega arith)
+  logs-match = logs-agree n M (pieces k plan)

@@ -1,16 +1,18 @@
 -- What holds of runs because it holds of steps; runs joined; marks stay. Assumes nothing.
 use Prim.Native.Nat.{ℕ, zero, suc, _+_, _*_, _<_}
-use mathlib.Core.List.{List, [], _∷_, _++_}
+use mathlib.Core.Bool.{false}
+use mathlib.Core.List.{List, [], _∷_, _++_, append-assoc}
 use mathlib.Core.Logic.{_≢_, ⊎-elim}
 use mathlib.Core.Path.{_≡_, refl, sym, ap, _∙_}
 use native.Mathlib.Numerals.{add-one}
 use native.Mathlib.Omega.{arith}
 use lib.ListN.{length, take, drop, length-append, length-drop}
 use lib.Seq.{take-append-le, drop-append-le, drop-drop}
-use Rattle.members.proofs.Tests.{Fails, neither, one-refuted, equal, unequal}
+use Rattle.members.proofs.Tests.{Fails, fails-false, false-fails, neither, one-refuted, equal, unequal}
 use Rattle.algorithm.specs.Table.{Table, broken, server, mark}
 use Rattle.algorithm.specs.Actions.{Action, unknown, elect, reconfigure, send, spread, write, fetch, rollBack, commit, actionOf}
 use Rattle.algorithm.specs.Run.{after, step, pieces, pieceCount, Ran, play, runTo, run}
+use Rattle.algorithm.specs.Demand.{wonBy, wonAlong}
 use Rattle.algorithm.proofs.Choice.{put-elim}
 use Rattle.algorithm.proofs.Lists.{nth-replace}
 use Rattle.algorithm.proofs.Refused.{Taken, outcome}
@@ -25,9 +27,9 @@ unfolding play
 play-keeps P keeps t [] h = h
 play-keeps P keeps t (a ∷ p) h = play-keeps P keeps (step t a .table) p (keeps t a h)
 
--- a run of a table that keeps the rules ends in one that does
-pub run-sound : (k : ℕ) (t : Table) (p : List ℕ) → Fails (broken t) → Fails (broken (runTo k t p .table))
-run-sound k t p = play-keeps (λ t. Fails (broken t)) step-sound t (pieces k p)
+-- actions on a table that keeps the rules leave one that does
+pub play-sound : (t : Table) (p : List (List ℕ)) → broken t ≡ false → broken (play t p .table) ≡ false
+play-sound t p h = fails-false (play-keeps (λ t. Fails (broken t)) step-sound t p (false-fails h))
 
 -- ---- one plan after another
 
@@ -35,13 +37,23 @@ run-sound k t p = play-keeps (λ t. Fails (broken t)) step-sound t (pieces k p)
 abbrev pub joined : Ran → Ran → Ran
 joined r s = record { replies = r .replies ++ s .replies; table = s .table }
 
-play-append : (t : Table) (p q : List (List ℕ)) → play t (p ++ q) ≡ joined (play t p) (play (play t p .table) q)
+-- actions and then others: the second run from the table of the first
+pub play-append : (t : Table) (p q : List (List ℕ)) → play t (p ++ q) ≡ joined (play t p) (play (play t p .table) q)
 unfolding play
 play-append t [] q = refl
 play-append t (a ∷ p) q =
     ap (λ (r : Ran). record { replies = step t a .number ∷ r .replies; table = r .table }) (play-append (step t a .table) p q)
 
-pieces-append : (k j n : ℕ) (p q : List ℕ) → length p ≡ 8 * k → n ≡ k + j → pieces n (p ++ q) ≡ pieces k p ++ pieces j q
+-- and the terms won are those of both
+pub won-append : (t : Table) (p q : List (List ℕ)) → wonAlong t (p ++ q) ≡ wonAlong t p ++ wonAlong (play t p .table) q
+unfolding play wonAlong
+won-append t [] q = refl
+won-append t (a ∷ p) q =
+    ap (λ (l : List ℕ). wonBy t a ++ l) (won-append (step t a .table) p q)
+    ∙ sym (append-assoc (wonBy t a) (wonAlong (step t a .table) p) (wonAlong (play (step t a .table) p .table) q))
+
+-- of k whole actions and then another plan, the pieces are those of the first and then those of the second
+pub pieces-append : (k j n : ℕ) (p q : List ℕ) → length p ≡ 8 * k → n ≡ k + j → pieces n (p ++ q) ≡ pieces k p ++ pieces j q
 unfolding pieces
 pieces-append zero j n [] q e z = let same : n ≡ j = omega arith in ap (λ (m : ℕ). pieces m q) same
 pieces-append zero j n (x ∷ p) q e z = absurd (omega arith)

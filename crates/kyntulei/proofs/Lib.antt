@@ -3,4 +3,4 @@ pub mod FreshLaws
 pub mod AnswerLaws
 pub mod Meaning
 pub mod Unique
-pub mod Rehearsal
+pub mod Reached

@@ -1,15 +1,34 @@
 -- What the promises mean of a table: its bytes are answered as the algorithm answers it. Assumes nothing.
 use Prim.Native.Nat.{ℕ, _<_}
 use mathlib.Core.Bool.{Bool, true, false, cond}
-use mathlib.Core.List.{List}
+use mathlib.Core.List.{List, []}
 use mathlib.Core.Path.{_≡_, refl, sym, ap, _∙_}
-use Rattle.algorithm.specs.Table.{Table, broken}
-use Rattle.algorithm.specs.Run.{step}
-use Rattle.algorithm.proofs.Refused.{refused-stays}
+use lib.ListN.{take, drop}
+use lib.Seq.{take-at}
+use borrow.Author.Tests.{eq-eqb}
+use Rattle.members.proofs.Tests.{refuted, both, fails-false, at-most}
+use Rattle.algorithm.specs.Table.{Table, every, broken, fresh}
+use Rattle.algorithm.specs.Run.{step, runTo}
+use Rattle.algorithm.proofs.Refused.{first-later, refused-stays}
+use Rattle.algorithm.proofs.Kept.{fresh-sound}
+use Rattle.algorithm.proofs.Runs.{replies-count}
 use Rattle.table.specs.Layout.{stored, tableIn, whole}
 use Rattle.table.proofs.StoredLaws.{stored-table}
 use Rattle.whole.proofs.Determined.{stored-whole, whole-stored}
-use Rattle.kyntulei.specs.Promise.{stepReply, stepBytes}
+use Rattle.engine.specs.Engine.{played}
+use Rattle.kyntulei.specs.Promise.{freshRefusals, freshReply, FreshAnswer, stepReply, stepBytes, runReplies, runBytes}
+
+-- a slice that is filled has the bytes of a fresh table, which breaks no rule
+module _ {b b' : List ℕ} {n m : ℕ} (h : FreshAnswer b n m 0 b') where
+  pub filled-bytes : b' ≡ stored (fresh n m)
+  filled-bytes = h .bytes ∙ rw (eq-eqb (freshReply b n m) 0 (sym (h .reply)))
+
+  pub filled-sound : broken (fresh n m) ≡ false
+  unfolding every
+  filled-sound =
+      let ((_, (servers, (sets, _))), _) = first-later 0 (freshRefusals b n m) [] tt (sym (h .reply)) in
+      let (some, few) = both (refuted servers) in
+      fails-false (fresh-sound n m (at-most some) (at-most few) (refuted sets))
 
 -- a step of the bytes of a table that breaks no rule is the step of the table
 module _ (t : Table) (sound : broken t ≡ false) (a : List ℕ) where
@@ -18,6 +37,16 @@ module _ (t : Table) (sound : broken t ≡ false) (a : List ℕ) where
 
   pub step-bytes : stepBytes (stored t) a ≡ stored (step t a .table)
   step-bytes = rw (stored-whole t sound, stored-table t sound)
+
+-- and so is a run: the replies stand before what is left of the buffer
+module _ (t : Table) (sound : broken t ≡ false) (p r : List ℕ) where
+  pub run-replies : take (played p r) (runReplies (stored t) p r) ≡ runTo (played p r) t p .replies
+  run-replies =
+      rw (stored-whole t sound, stored-table t sound)
+      (take-at (runTo (played p r) t p .replies) (drop (played p r) r) (played p r) (replies-count (played p r) t p))
+
+  pub run-bytes : runBytes (stored t) p r ≡ stored (runTo (played p r) t p .table)
+  run-bytes = rw (stored-whole t sound, stored-table t sound)
 
 -- a refused action leaves every byte, of any slice
 pub refused-bytes : (b a : List ℕ) → 0 < stepReply b a → stepBytes b a ≡ b

@@ -2,3 +2,4 @@
 pub mod OrderLaws
 pub mod InputLaws
 pub mod Theorems
+pub mod Never24

@@ -1,0 +1,187 @@
+-- Demand 3 of every slice that calls from C lead to, and of every reply on the way. Assumes nothing.
+use Prim.Native.Nat.{ℕ, _+_, _*_, _≤_, _<_}
+use mathlib.Core.Bool.{true, false}
+use mathlib.Core.List.{List, [], _∷_, _++_, append-assoc, append-nil}
+use mathlib.Core.Logic.{_≢_}
+use mathlib.Core.Path.{_≡_, refl, sym, ap, ap₂, subst, _∙_}
+use native.Mathlib.Omega.{arith}
+use lib.Dec.{T}
+use lib.ListN.{length, getD, take}
+use lib.Seq.{getD-append-seam, getD-append-add, getD-take}
+use borrow.Author.Tests.{ne-eqb}
+use Rattle.algorithm.specs.Table.{Table, server, primary, mark, broken, fresh}
+use Rattle.algorithm.specs.Comparisons.{held}
+use Rattle.algorithm.specs.Actions.{actionOf}
+use Rattle.algorithm.specs.Refusals.{unlessRefused}
+use Rattle.algorithm.specs.Run.{step, pieces, play}
+use Rattle.algorithm.specs.Demand.{wins, wonBy, wonAlong, termsWon, Rising}
+use Rattle.algorithm.proofs.Runs.{play-sound, play-append, won-append, pieces-append}
+use Rattle.algorithm.proofs.Demands.{won-rise, not-given-24, primary-complete}
+use Rattle.table.specs.Layout.{stored, tableIn, whole}
+use Rattle.table.proofs.StoredLaws.{stored-table}
+use Rattle.whole.proofs.Determined.{stored-whole, whole-stored, whole-sound}
+use Rattle.image.specs.Reader.{ReadAnswer}
+use Rattle.image.proofs.ReplyLaws.{read-sized, kept-bytes}
+use Rattle.writer.specs.Writer.{WriteAnswer}
+use Rattle.writer.proofs.Theorems.{read-saved}
+use Rattle.engine.specs.Engine.{played}
+use Rattle.kyntulei.specs.Promise.{FreshAnswer, freshReply, StepAnswer, stepReply, stepBytes, RunAnswer, runReplies, runBytes}
+use Rattle.kyntulei.specs.Reached.{Calls, none, stepped, ran, carried, unread, unfilled, Reached}
+use Rattle.kyntulei.proofs.Meaning.{filled-bytes, filled-sound, step-reply, step-bytes, run-replies, run-bytes}
+
+-- ---- calls from any table that breaks no rule
+
+-- the slice has the bytes of the table that the actions leave, and the replies are theirs
+pub record Plays (t : Table) (plan : List (List ℕ)) (rs b : List ℕ) : Type 0 where
+  pub bytes : b ≡ stored (play t plan .table)
+  pub replies : rs ≡ play t plan .replies
+
+module _ (t : Table) (sound : broken t ≡ false) where
+  -- the same bytes again
+  kept : {plan : List (List ℕ)} {replies c c' : List ℕ} → Plays t plan replies c → c' ≡ c → Plays t plan replies c'
+  kept h e = record { bytes = e ∙ h .bytes; replies = h .replies }
+
+  -- actions more
+  more : {plan : List (List ℕ)} {replies c c' rs : List ℕ} → Plays t plan replies c → (acts : List (List ℕ))
+      → c' ≡ stored (play (play t plan .table) acts .table) → rs ≡ play (play t plan .table) acts .replies → Plays t (plan ++ acts) (replies ++ rs) c'
+  more {plan} h acts b r =
+      record { bytes = rw (play-append t plan acts) b; replies = rw (play-append t plan acts) (ap₂ (λ (x y : List ℕ). x ++ y) (h .replies) r) }
+
+  -- the calls play their actions on the table
+  pub calls-play : {plan : List (List ℕ)} {replies c : List ℕ} → Calls (stored t) plan replies c → Plays t plan replies c
+  unfolding play
+  calls-play none = record { bytes = refl; replies = refl }
+  calls-play (stepped {plan} {a = a} h s) =
+      let before = calls-play h in
+      let u = play t plan .table in
+      more before (a ∷ [])
+      (s .bytes ∙ ap (λ (c : List ℕ). stepBytes c a) (before .bytes) ∙ step-bytes u (play-sound t plan sound) a)
+      (ap (λ (n : ℕ). n ∷ []) (s .reply ∙ ap (λ (c : List ℕ). stepReply c a) (before .bytes) ∙ step-reply u (play-sound t plan sound) a))
+  calls-play (ran {plan} {p = p} {s = s} h a) =
+      let before = calls-play h in
+      let u = play t plan .table in
+      rw (a .count)
+      (more before (pieces (played p s) p)
+      (a .bytes ∙ ap (λ (c : List ℕ). runBytes c p s) (before .bytes) ∙ run-bytes u (play-sound t plan sound) p s)
+      (ap (take (played p s)) (a .replies ∙ ap (λ (c : List ℕ). runReplies c p s) (before .bytes)) ∙ run-replies u (play-sound t plan sound) p s))
+  calls-play (carried {d = d} h w rest a) = kept (calls-play h) (read-saved w rest (read-sized _ d 0 (a .reply) refl) a .1)
+  calls-play (unread {c = c} {r = r} h im e e' a o) = kept (calls-play h) (a .bytes ∙ sym (kept-bytes im c r (a .reply) (omega arith)))
+  calls-play (unfilled {c = c} {r = r} h n m a o) = kept (calls-play h) (a .bytes ∙ rw (ne-eqb (freshReply c n m) 0 (omega (arith, a .reply))))
+
+-- ---- calls from any whole slice
+
+module _ {b c rs : List ℕ} {plan : List (List ℕ)} (w : whole b ≡ true) (h : Calls b plan rs c) where
+  pub whole-play : Plays (tableIn b) plan rs c
+  whole-play = calls-play (tableIn b) (whole-sound b w) (subst (λ (x : List ℕ). Calls x plan rs c) (whole-stored b w) h)
+
+  pub whole-left : whole c ≡ true
+  whole-left = rw (whole-play .bytes) (stored-whole (play (tableIn b) plan .table) (play-sound (tableIn b) plan (whole-sound b w)))
+
+-- The actions alone decide what is left and what is replied: not how they were parted into steps and runs, nor where the table was written and
+-- read in between.
+pub same-plan : {b c d rs qs : List ℕ} {plan : List (List ℕ)} → whole b ≡ true → Calls b plan rs c → Calls b plan qs d → (rs ≡ qs) × (c ≡ d)
+same-plan w h k =
+    let x = whole-play w h in
+    let y = whole-play w k in
+    (x .replies ∙ sym (y .replies), x .bytes ∙ sym (y .bytes))
+
+-- calls that judge no action, as a write and a read of what was written, leave the bytes
+pub same-bytes : {c d : List ℕ} → whole c ≡ true → Calls c [] [] d → d ≡ c
+same-bytes w h = same-plan w h none .1
+
+-- ---- calls from a fresh table
+
+module _ {n m : ℕ} {plan : List (List ℕ)} {replies b : List ℕ} (h : Reached n m plan replies b) where
+  plays : Plays (fresh n m) plan replies b
+  plays = calls-play (fresh n m) (filled-sound (h .filled)) (rw (filled-bytes (h .filled)) at (h .calls))
+
+  -- the table in the slice is what the actions leave of the fresh one, and the replies are the algorithm's
+  pub reached-table : tableIn b ≡ play (fresh n m) plan .table
+  reached-table = ap tableIn (plays .bytes) ∙ stored-table (play (fresh n m) plan .table) (play-sound (fresh n m) plan (filled-sound (h .filled)))
+
+  pub reached-replies : replies ≡ play (fresh n m) plan .replies
+  reached-replies = plays .replies
+
+  pub reached-whole : whole b ≡ true
+  reached-whole = rw (plays .bytes) (stored-whole (play (fresh n m) plan .table) (play-sound (fresh n m) plan (filled-sound (h .filled))))
+
+  -- the terms won by all actions rise, so that no term is won by two elections
+  pub reached-rise : Rising 0 (wonAlong (fresh n m) plan)
+  reached-rise = won-rise n m plan
+
+  -- every primary holds, at its position, each entry marked with a term not above its own
+  pub reached-complete : (i q : ℕ) → T (primary (server (tableIn b) i)) → 0 < mark (tableIn b) q → mark (tableIn b) q ≤ server (tableIn b) i .term
+      → T (held (server (tableIn b) i .log) q (mark (tableIn b) q))
+  reached-complete = rw reached-table (primary-complete n m plan)
+
+  -- no reply was 24
+  pub reached-24 : (j : ℕ) → getD replies j 0 ≢ 24
+  reached-24 = rw reached-replies (not-given-24 n m plan)
+
+-- two that were reached by the same actions are the same, whatever calls made them
+pub reached-unique : {n m : ℕ} {plan : List (List ℕ)} {rs b qs c : List ℕ} → Reached n m plan rs b → Reached n m plan qs c → (rs ≡ qs) × (b ≡ c)
+reached-unique h k = (plays h .replies ∙ sym (plays k .replies), plays h .bytes ∙ sym (plays k .bytes))
+
+-- ---- a call on a reached slice
+
+module _ {n m : ℕ} {plan : List (List ℕ)} {replies b : List ℕ} (h : Reached n m plan replies b) where
+  module _ {a b' : List ℕ} {r : ℕ} (s : StepAnswer b a r b') where
+    pub then-step : Reached n m (plan ++ (a ∷ [])) (replies ++ (r ∷ [])) b'
+    then-step = record { given = h .given; first = h .first; filled = h .filled; calls = stepped (h .calls) s }
+
+    -- it is not answered 24
+    pub step-24 : r ≢ 24
+    step-24 e = reached-24 then-step (length replies) (getD-append-seam replies r [] 0 ∙ e)
+
+    -- the term that it wins, told by the slice and the reply
+    pub step-won : wonAlong (fresh n m) (plan ++ (a ∷ [])) ≡ wonAlong (fresh n m) plan ++ unlessRefused r (wins (tableIn b) (actionOf a)) []
+    unfolding wonAlong wonBy
+    step-won = won-append (fresh n m) plan (a ∷ []) ∙ rw (← reached-table h, s .reply, reached-whole h, append-nil)
+
+  module _ {p s b' s' : List ℕ} {k : ℕ} (a : RunAnswer b p s k b' s') where
+    pub then-run : Reached n m (plan ++ pieces k p) (replies ++ take k s') b'
+    then-run = record { given = h .given; first = h .first; filled = h .filled; calls = ran (h .calls) a }
+
+    -- no reply that it writes is 24
+    pub run-24 : (j : ℕ) → j < k → getD s' j 0 ≢ 24
+    run-24 j l e = reached-24 then-run (length replies + j) (getD-append-add replies (take k s') j 0 ∙ getD-take k s' j 0 l ∙ e)
+
+    -- the terms that it wins are those of the algorithm's run on the table in the slice
+    pub run-won : wonAlong (fresh n m) (plan ++ pieces k p) ≡ wonAlong (fresh n m) plan ++ termsWon k (tableIn b) p
+    run-won = won-append (fresh n m) plan (pieces k p) ∙ rw (← reached-table h)
+
+-- ---- an evening and a morning
+
+-- A run of whole actions p, and from what it left, kept as it was, written and read or not, a run of q: one run of both, where it has room
+-- for as many replies, leaves the same bytes and has the same replies.
+pub evening-morning : {b c d c' d' p q s s' u u' v v' : List ℕ} {k l i : ℕ} → whole b ≡ true → length p ≡ 8 * k → i ≡ k + l
+    → RunAnswer b p s k c s' → Calls c [] [] d → RunAnswer d q u l d' u' → RunAnswer b (p ++ q) v i c' v'
+    → (take i v' ≡ take k s' ++ take l u') × (c' ≡ d')
+evening-morning {p = p} {q} {k = k} {l} {i} w all both e between f one =
+    let two = ran (ran none e) (rw (same-bytes (whole-left w (ran none e)) between) at f) in
+    same-plan w (rw (pieces-append k l i p q all both) at (ran none one)) two
+
+-- the same with the write and the read spelled out
+pub saved-between : {b c d c' d' d'' p q s s' u u' v v' buffer buffer' : List ℕ} {k l i e e' z z' : ℕ} → whole b ≡ true → length p ≡ 8 * k → i ≡ k + l
+    → RunAnswer b p s k c s' → WriteAnswer c buffer e 0 buffer' e' → (rest : List ℕ) → ReadAnswer (take e' buffer' ++ rest) d z 0 d' z' → RunAnswer d' q u l d'' u'
+    → RunAnswer b (p ++ q) v i c' v' → (take i v' ≡ take k s' ++ take l u') × (c' ≡ d'')
+saved-between w all both e written rest read f one = evening-morning w all both e (carried none written rest read) f one
+
+-- ---- there are such calls
+
+steps : (b : List ℕ) (t : Table) → broken t ≡ false → (before : List (List ℕ)) (rs : List ℕ) → Calls b before rs (stored t) → (plan : List (List ℕ))
+    → Calls b (before ++ plan) (rs ++ play t plan .replies) (stored (play t plan .table))
+unfolding play
+steps b t sound before rs h [] = rw (append-nil before, append-nil rs) h
+steps b t sound before rs h (a ∷ plan) =
+    let o = step t a in
+    let s : StepAnswer (stored t) a (o .number) (stored (o .table)) = record { reply = sym (step-reply t sound a); bytes = sym (step-bytes t sound a) } in
+    rw (← append-assoc before (a ∷ []) plan, ← append-assoc rs (o .number ∷ []) (play (o .table) plan .replies))
+    (steps b (o .table) (play-sound t (a ∷ []) sound) (before ++ (a ∷ [])) (rs ++ (o .number ∷ [])) (stepped h s) plan)
+
+-- every list of actions can be judged, by steps alone
+pub can-reach : (n m : ℕ) {b b' : List ℕ} → FreshAnswer b n m 0 b' → (plan : List (List ℕ))
+    → Reached n m plan (play (fresh n m) plan .replies) (stored (play (fresh n m) plan .table))
+can-reach n m {b} {b'} f plan =
+    let t = fresh n m in
+    record { given = b; first = b'; filled = f; calls = steps b' t (filled-sound f) [] [] (subst (λ (c : List ℕ). Calls b' [] [] c) (filled-bytes f) none) plan }
