@@ -8,17 +8,19 @@ use mathlib.Core.List.{List, [], _∷_}
 use lib.Dec.{ltb, eqb}
 use lib.ListN.{length, getD}
 use Rattle.members.specs.Members.{within}
-use Rattle.members.proofs.Tests.{Fails, neither, both-refuted, unequal, less, above}
-use Rattle.algorithm.specs.Table.{Log, Table, every, count, server, ceiling, positions}
+use Rattle.words.proofs.Tests.{Fails, neither, both-refuted, unequal, less, above, is-true}
+use Rattle.algorithm.specs.Table.{Log, Table, count, server, ceiling, positions}
+use Rattle.words.specs.Lists.{every}
 use Rattle.algorithm.specs.Comparisons.{last, prefix}
 use Rattle.algorithm.specs.Actions.{kindOf, iOf, jOf, setOf, usesJ, Action, unknown, kinds, actionOf, joins}
-use Rattle.algorithm.specs.Refusals.{formRefusals, commonRefusals, ownRefusals, refusals, first}
+use Rattle.algorithm.specs.Refusals.{formRefusals, commonRefusals, ownRefusals, refusals}
+use Rattle.words.specs.Refusal.{first}
 use Rattle.algorithm.specs.Run.{after}
-use Rattle.algorithm.proofs.Refused.{NoneHold, Taken, taken, first-later}
+use Rattle.words.proofs.RefusalLaws.{NoneHold, first-later}
+use Rattle.algorithm.proofs.Refused.{Taken, taken}
 use Rattle.algorithm.proofs.Sound.{table-sound, here-sound}
 use Rattle.form.proofs.FormLaws.{past, kind-known, has-byte, i-known, j-known}
 use Rattle.table.proofs.HeldLaws.{known-within}
-use Rattle.table.proofs.BoolLaws.{is-true}
 use Rattle.table.specs.Layout.{tableIn}
 use Rattle.table.specs.Slice.{Holds, Within}
 

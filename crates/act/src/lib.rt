@@ -1,7 +1,8 @@
 // An action done by its kind, in place.
 ghost use mathlib.Core.Path.{_≡_};
 ghost use Rattle.algorithm.specs.Actions.{actionOf};
-ghost use Rattle.algorithm.specs.Refusals.{first, refusals};
+ghost use Rattle.words.specs.Refusal.{first};
+ghost use Rattle.algorithm.specs.Refusals.{refusals};
 ghost use Rattle.algorithm.specs.Run.{after};
 ghost use Rattle.table.specs.Layout.{tableIn};
 ghost use Rattle.table.specs.Slice.{Held, Holds};

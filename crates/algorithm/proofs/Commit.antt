@@ -1,6 +1,6 @@
 -- Where the invariants hold, no action is refused with 24. Assumes nothing.
 use Prim.Native.Nat.{ℕ}
-use mathlib.Core.Bool.{Bool, true, false, not, _&&_, _||_}
+use mathlib.Core.Bool.{Bool, true, false, not, _||_, _&&_}
 use mathlib.Core.List.{List, [], _∷_, _++_, append-nil}
 use mathlib.Core.Logic.{_≢_}
 use mathlib.Core.Path.{_≡_, refl, subst}
@@ -8,12 +8,15 @@ use native.Mathlib.Decide.{ℕ-discrete}
 use native.Mathlib.Omega.{arith}
 use lib.Dec.{T, eqb}
 use lib.ListN.{length, take, drop}
-use Rattle.members.proofs.Tests.{Passes, first-of, second-of, is-equal}
-use Rattle.algorithm.specs.Table.{Table, every, count, server, mark}
-use Rattle.algorithm.specs.Actions.{Refusal, refuse, electRefusals, reconfigureRefusals, sendRefusals, spreadRefusals, writeRefusals, fetchRefusals, rollBackRefusals, commitRefusals, Action, unknown, elect, reconfigure, send, spread, write, fetch, rollBack, commit, actionOf}
-use Rattle.algorithm.specs.Refusals.{commonRefusals, ownRefusals, refusals, first}
+use Rattle.words.proofs.Tests.{Passes, first-of, second-of, is-equal}
+use Rattle.algorithm.specs.Table.{Table, count, server, mark}
+use Rattle.words.specs.Lists.{every}
+use Rattle.words.specs.Refusal.{Refusal, refuse, first}
+use Rattle.algorithm.specs.Actions.{electRefusals, reconfigureRefusals, sendRefusals, spreadRefusals, writeRefusals, fetchRefusals, rollBackRefusals, commitRefusals, Action, unknown, elect, reconfigure, send, spread, write, fetch, rollBack, commit, actionOf}
+use Rattle.algorithm.specs.Refusals.{commonRefusals, ownRefusals, refusals}
 use Rattle.algorithm.specs.Run.{step}
-use Rattle.algorithm.proofs.Refused.{Fits, first-later, common-fit}
+use Rattle.algorithm.proofs.Refused.{Fits, common-fit}
+use Rattle.words.proofs.RefusalLaws.{first-later}
 use Rattle.algorithm.proofs.Full.{CanCommit}
 use Rattle.algorithm.proofs.Safety.{marked-so}
 use Rattle.algorithm.proofs.Seen.{view}

@@ -11,7 +11,7 @@ use Rattle.algorithm.specs.Table.{Config, freshServer, absent}
 use Rattle.algorithm.specs.Actions.{winner}
 use Rattle.algorithm.specs.Demand.{Rising}
 use Rattle.algorithm.specs.Logless.{State, elect, reconfigure, send, spread, after, voted, Move, rests, takes, Moves, none, then, Fresh}
-use Rattle.algorithm.proofs.Choice.{put-same}
+use Rattle.words.proofs.Choice.{put-same}
 use Rattle.algorithm.proofs.Invariant.{Reaches, Has, here, Leads, Active, Inv}
 use Rattle.algorithm.proofs.Steps.{step, inv-after, election-new}
 

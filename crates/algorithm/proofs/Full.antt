@@ -10,7 +10,8 @@ use Rattle.members.specs.Members.{All, Majority, Most}
 use Rattle.algorithm.specs.Table.{Log, entryAt, termAt}
 use Rattle.algorithm.specs.Comparisons.{last, ahead}
 use Rattle.algorithm.specs.Logless as logless
-use Rattle.algorithm.specs.Logless.{State, put}
+use Rattle.algorithm.specs.Logless.{State}
+use Rattle.words.specs.Lists.{put}
 use Rattle.algorithm.proofs.Logs.{HasEntry, Prefix}
 
 pub record View : Type 0 where

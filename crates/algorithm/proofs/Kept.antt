@@ -8,11 +8,12 @@ use native.Mathlib.Omega.{arith}
 use lib.Dec.{leb, ltb}
 use lib.ListN.{length, take, length-append, length-take, length-replicate}
 use Rattle.members.specs.Members.{within}
-use Rattle.members.proofs.Tests.{Passes, Fails, together, refuted, both-refuted, equal, unequal, less, above, is-at-most}
-use Rattle.algorithm.specs.Table.{every, Log, Table, count, server, primary, termAt, withServer, changed, withConfig, withLog, withEntry, ceiling, positions, soundEntry, soundServer, broken, freshServer, fresh}
+use Rattle.words.proofs.Tests.{Passes, Fails, together, refuted, both-refuted, equal, unequal, less, above, is-at-most}
+use Rattle.words.specs.Lists.{every}
+use Rattle.algorithm.specs.Table.{Log, Table, count, server, primary, termAt, withServer, changed, withConfig, withLog, withEntry, ceiling, positions, soundEntry, soundServer, broken, freshServer, fresh}
 use Rattle.algorithm.specs.Actions.{Action, elect, reconfigure, commit, send, spread, fetch, rollBack, write, unknown, actionOf, steppedDown, winner, nextConfig, joins}
 use Rattle.algorithm.specs.Run.{after, step}
-use Rattle.algorithm.proofs.Lists.{every-nth, every-plus, every-take, every-replicate}
+use Rattle.words.proofs.Lists.{every-nth, every-plus, every-take, every-replicate}
 use Rattle.algorithm.proofs.Refused.{Taken, outcome}
 use Rattle.algorithm.proofs.Seen.{count-voted}
 use Rattle.algorithm.proofs.Sound.{SoundServer, SoundTable, sound-server, table-sound, sound-table, here-sound, with-sound, mark-sound, stepped-sound, voted-sound}

@@ -1,8 +1,6 @@
 -- What is proved of the algorithm.
 pub mod Answers
 pub mod Worked
-pub mod Choice
-pub mod Lists
 pub mod Refused
 pub mod Orders
 pub mod Logs

@@ -1,47 +1,25 @@
 -- What a step does where no refusal holds, and where one does. Assumes nothing.
 use Prim.Native.Nat.{ℕ, zero, suc, _<_}
-use mathlib.Core.Bool.{Bool, true, false, cond, not, _&&_, _||_}
-use mathlib.Core.List.{List, [], _∷_, _++_, append-nil}
+use mathlib.Core.Bool.{Bool, true, false, not, _||_, _&&_}
+use mathlib.Core.List.{List, [], append-nil}
 use mathlib.Core.Logic.{_⊎_, inl, inr, ⊎-elim}
 use mathlib.Core.Path.{_≡_, refl}
 use native.Mathlib.Omega.{arith}
-use lib.Dec.{T, ltb, eqb, ltb→lt, eqb→eq}
+use lib.Dec.{T, eqb}
 use lib.ListN.{getD}
 use borrow.Author.Tests.{eqb-true}
-use mir.Facts.{and-yes, yes-and, not-T, eqb-no}
 use Rattle.members.specs.Members.{within}
-use Rattle.members.proofs.Tests.{Passes, Fails, neither, refuted, both-refuted}
-use Rattle.algorithm.specs.Table.{Table, every, count, broken}
-use Rattle.algorithm.specs.Actions.{Refusal, Action, unknown, elect, reconfigure, send, spread, write, fetch, rollBack, commit, kinds, kindOf, iOf, jOf, setOf, usesSet, usesJ, actionOf}
-use Rattle.algorithm.specs.Refusals.{known, commonRefusals, ownRefusals, refusals, first}
+use Rattle.words.proofs.RefusalLaws.{NoneHold, first-later, ascending, numbered}
+use Rattle.words.proofs.Tests.{Passes, Fails, neither, refuted, both-refuted}
+use Rattle.algorithm.specs.Table.{Table, count, broken}
+use Rattle.words.specs.Lists.{every}
+use Rattle.words.specs.Refusal.{first}
+use Rattle.algorithm.specs.Actions.{Action, unknown, elect, reconfigure, send, spread, write, fetch, rollBack, commit, kinds, kindOf, iOf, jOf, setOf, usesSet, usesJ, actionOf}
+use Rattle.algorithm.specs.Refusals.{known, commonRefusals, ownRefusals, refusals}
 use Rattle.algorithm.specs.Run.{after, step}
 use Rattle.algorithm.specs.Demand.{wins, wonBy}
 
--- ---- a list of refusals
-
--- none of them holds
-abbrev pub NoneHold : List Refusal → Type 0
-NoneHold [] = Unit {0}
-NoneHold (r ∷ rs) = Fails (r .holds) × NoneHold rs
-
--- if k is given, and no refusal of the first list has that number, none of them holds
-pub first-later : (k : ℕ) (rs later : List Refusal) → T (every (λ r. not (eqb (r .number) k)) rs) → first (rs ++ later) ≡ k
-    → NoneHold rs × (first later ≡ k)
-unfolding first every
-first-later k [] later p e = (tt, e)
-first-later k (r ∷ rs) later p e =
-    let (here, others) = and-yes (not (eqb (r .number) k)) (every (λ r. not (eqb (r .number) k)) rs) p in
-    go (r .holds) here (first-later k rs later others) e
-  where
-    go : (b : Bool) → T (not (eqb (r .number) k)) → (first (rs ++ later) ≡ k → NoneHold rs × (first later ≡ k))
-        → cond b (r .number) (first (rs ++ later)) ≡ k → (Fails b × NoneHold rs) × (first later ≡ k)
-    go true here rest z = absurd (eqb-no here z)
-    go false here rest z = let (n, f) = rest z in ((record { no = tt }, n), f)
-
--- each number is larger than the one before it, the first one larger than k
-unfoldable pub ascending : ℕ → List Refusal → Bool
-ascending k [] = true
-ascending k (r ∷ rs) = ltb k (r .number) && ascending (r .number) rs
+-- ---- the order of an action's refusals
 
 own-ascending : (t : Table) (a : Action) → T (ascending 5 (ownRefusals t a))
 unfolding ascending
@@ -59,16 +37,6 @@ own-ascending t (commit i q) = tt
 pub lowest-first : (t : Table) (a : List ℕ) → T (ascending 0 (refusals t a))
 unfolding ascending refusals
 lowest-first t a = own-ascending t (actionOf a)
-
--- no refusal has the number 0
-numbered : (k : ℕ) (rs : List Refusal) → T (ascending k rs) → T (every (λ r. not (eqb (r .number) 0)) rs)
-unfolding ascending every
-numbered k [] h = tt
-numbered k (r ∷ rs) h =
-    let (here, rest) = and-yes (ltb k (r .number)) (ascending (r .number) rs) h in
-    yes-and (not (eqb (r .number) 0)) (every (λ r. not (eqb (r .number) 0)) rs)
-    (not-T (eqb (r .number) 0) (λ z. omega (arith, ltb→lt k (r .number) here, eqb→eq (r .number) 0 z)))
-    (numbered (r .number) rs rest)
 
 -- ---- an action whose servers and set are those of a table of n servers
 

@@ -5,7 +5,8 @@ use mathlib.Core.Logic.{inl, inr, ⊎-elim}
 use mathlib.Core.Path.{_≡_, refl, ap}
 use native.Mathlib.Omega.{arith}
 use lib.ListN.{length, getD, replicate}
-use Rattle.algorithm.specs.Table.{nth, server, mark, withLog, positions, fresh}
+use Rattle.words.specs.Lists.{nth}
+use Rattle.algorithm.specs.Table.{server, mark, withLog, positions, fresh}
 use Rattle.algorithm.specs.Logless as logless
 use Rattle.algorithm.specs.Logless.{core, Fresh}
 use Rattle.algorithm.proofs.Logs.{HasEntry}

@@ -14,8 +14,9 @@ use Rattle.members.proofs.Majorities.{most-hits, most-map}
 use Rattle.algorithm.specs.Table.{Config, Entry, Log, entryAt, termAt}
 use Rattle.algorithm.specs.Comparisons.{last, ahead}
 use Rattle.algorithm.specs.Logless as logless
-use Rattle.algorithm.specs.Logless.{State, CanElect, CanReconfigure, put}
-use Rattle.algorithm.proofs.Choice.{put-elim}
+use Rattle.algorithm.specs.Logless.{State, CanElect, CanReconfigure}
+use Rattle.words.specs.Lists.{put}
+use Rattle.words.proofs.Choice.{put-elim}
 use Rattle.algorithm.proofs.Logs.{HasEntry, Same, Prefix, at-zero, prefix-refl, plus-holds, length-plus, at-plus, at-plus-end, length-cut, at-cut, last-held, last-positive}
 use Rattle.algorithm.proofs.Orders.{not-larger}
 use Rattle.algorithm.proofs.Invariant.{here, Leads, Inv}

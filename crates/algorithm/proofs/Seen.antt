@@ -9,15 +9,16 @@ use native.Mathlib.Omega.{arith}
 use lib.Dec.{ltb, eqb}
 use lib.ListN.{length, getD, List·getD-eq-default, replicate}
 use Rattle.members.specs.Members.{member, within}
-use Rattle.members.proofs.Tests.{Passes, both, less, at-most}
+use Rattle.words.proofs.Tests.{Passes, both, less, at-most}
 use Rattle.members.proofs.Masks.{member-above}
-use Rattle.algorithm.specs.Table.{nth, Log, Server, Table, count, absent, server, mark, withServer, withLog, freshServer, fresh}
+use Rattle.words.specs.Lists.{nth, put}
+use Rattle.algorithm.specs.Table.{Log, Server, Table, count, absent, server, mark, withServer, withLog, freshServer, fresh}
 use Rattle.algorithm.specs.Actions.{steppedDown, votersFrom, voted}
 use Rattle.algorithm.specs.Refusals.{known}
 use Rattle.algorithm.specs.Logless as logless
-use Rattle.algorithm.specs.Logless.{State, core, put}
-use Rattle.algorithm.proofs.Choice.{put-elim}
-use Rattle.algorithm.proofs.Lists.{nth-replace}
+use Rattle.algorithm.specs.Logless.{State, core}
+use Rattle.words.proofs.Choice.{put-elim}
+use Rattle.words.proofs.Lists.{nth-replace}
 use Rattle.algorithm.proofs.Full.{View}
 
 abbrev pub view : Table → View

@@ -1,6 +1,6 @@
 -- The rules of a table one by one, and what may be put into a table that keeps them. Assumes nothing.
 use Prim.Native.Nat.{ℕ, suc, _≤_}
-use mathlib.Core.Bool.{Bool, cond, _&&_, _||_}
+use mathlib.Core.Bool.{Bool, cond, _||_, _&&_}
 use mathlib.Core.List.{List, [], _∷_}
 use mathlib.Core.Logic.{_⊎_, inl, inr, ⊎-elim}
 use mathlib.Core.Path.{_≡_, refl, sym, _∙_, subst}
@@ -8,12 +8,13 @@ use native.Mathlib.Omega.{arith}
 use lib.Dec.{leb}
 use lib.ListN.{length}
 use Rattle.members.specs.Members.{member, within}
-use Rattle.members.proofs.Tests.{Passes, Fails, both, together, either, first-of, second-of, refuted, unrefuted, equal, at-most, is-equal, is-at-most}
-use Rattle.algorithm.specs.Table.{replace, every, Config, Server, Table, count, absent, server, primary, secondary, withServer, ceiling, positions, soundConfig, soundEntry, soundServer, broken}
+use Rattle.words.proofs.Tests.{Passes, Fails, both, together, either, first-of, second-of, refuted, unrefuted, equal, at-most, is-equal, is-at-most}
+use Rattle.words.specs.Lists.{replace, every}
+use Rattle.algorithm.specs.Table.{Config, Server, Table, count, absent, server, primary, secondary, withServer, ceiling, positions, soundConfig, soundEntry, soundServer, broken}
 use Rattle.algorithm.specs.Actions.{steppedDown, votersFrom, voted}
 use Rattle.algorithm.specs.Refusals.{known}
-use Rattle.algorithm.proofs.Choice.{cond-elim}
-use Rattle.algorithm.proofs.Lists.{length-replace, every-cons, cons-every, every-nth, every-replace}
+use Rattle.words.proofs.Choice.{cond-elim}
+use Rattle.words.proofs.Lists.{length-replace, every-cons, cons-every, every-nth, every-replace}
 use Rattle.algorithm.proofs.Seen.{known-range, count-voted}
 
 -- ---- one rule after another

@@ -10,18 +10,20 @@ use native.Mathlib.Omega.{arith}
 use lib.Dec.{ltb, eqb}
 use lib.ListN.{length, getD, take, List·getD-eq-default}
 use Rattle.members.specs.Members.{member, within, majority}
-use Rattle.members.proofs.Tests.{Passes, both, together, either, neither, refuted, contradiction, both-refuted, equal, unequal, less, not-less, at-most, is-equal, is-at-most}
+use Rattle.words.proofs.Tests.{Passes, both, together, either, neither, refuted, contradiction, both-refuted, equal, unequal, less, not-less, at-most, is-equal, is-at-most}
 use Rattle.members.proofs.Majorities.{majority-is, one-apart, most-map, all-pass, none-passes, most-pass}
-use Rattle.algorithm.specs.Table.{nth, Log, Server, Table, count, server, primary, entryAt, mark, withConfig, withLog, positions}
+use Rattle.words.specs.Lists.{nth, put}
+use Rattle.algorithm.specs.Table.{Log, Server, Table, count, server, primary, entryAt, mark, withConfig, withLog, positions}
 use Rattle.algorithm.specs.Comparisons.{newer, held, prefix}
 use Rattle.algorithm.specs.Actions.{Action, elect, reconfigure, commit, send, spread, fetch, rollBack, write, unknown, actionOf, steppedDown, voted, winner, electAfter, someMarked, holdsMarked, p1, nextConfig, reconfigureAfter, sendAfter, spreadAfter, writeAfter, fetchAfter, rollBackAfter, commitRefusals, commitAfter}
 use Rattle.algorithm.specs.Refusals.{known}
 use Rattle.algorithm.specs.Run.{after, step}
 use Rattle.algorithm.specs.Demand.{wins, wonBy}
 use Rattle.algorithm.specs.Logless as logless
-use Rattle.algorithm.specs.Logless.{core, put}
-use Rattle.algorithm.proofs.Lists.{nth-replace}
-use Rattle.algorithm.proofs.Refused.{NoneHold, Taken, outcome}
+use Rattle.algorithm.specs.Logless.{core}
+use Rattle.words.proofs.Lists.{nth-replace}
+use Rattle.words.proofs.RefusalLaws.{NoneHold}
+use Rattle.algorithm.proofs.Refused.{Taken, outcome}
 use Rattle.algorithm.proofs.Logs.{HasEntry, Prefix}
 use Rattle.algorithm.proofs.Full as full
 use Rattle.algorithm.proofs.Full.{View, Settled, CanCommit, Move, rests, takes}

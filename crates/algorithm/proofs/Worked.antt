@@ -3,10 +3,12 @@ use mathlib.Core.List.{map}
 use mathlib.Core.Path.{_≡_, refl}
 use lib.Count.{ones}
 use Rattle.members.specs.Members.{mask}
-use Rattle.algorithm.specs.Table.{nth, replace, every, broken}
+use Rattle.words.specs.Lists.{nth, replace, every}
+use Rattle.algorithm.specs.Table.{broken}
 use Rattle.algorithm.specs.Comparisons.{prefix}
 use Rattle.algorithm.specs.Actions.{votersFrom}
-use Rattle.algorithm.specs.Refusals.{refusals, first}
+use Rattle.algorithm.specs.Refusals.{refusals}
+use Rattle.words.specs.Refusal.{first}
 use Rattle.algorithm.specs.Run.{after, step, pieces, play}
 use Rattle.algorithm.specs.Cases.{cases}
 

@@ -1,10 +1,12 @@
 -- The eight actions: the bytes that name one; for each kind the refusals that are its own, lowest first, and the table after it.
 -- A byte is any number here; those that come from a slice are below 256. Assumes nothing.
-use Prim.Native.Nat.{ℕ, zero, suc, _+_, _*_, _/_, _%_}
-use mathlib.Core.Bool.{Bool, true, false, cond, not, _&&_, _||_}
+use Prim.Native.Nat.{ℕ, zero, suc, _+_}
+use mathlib.Core.Bool.{Bool, true, false, cond, not, _||_, _&&_}
 use mathlib.Core.List.{List, [], _∷_}
 use lib.Dec.{leb, ltb, eqb}
 use lib.ListN.{length, getD}
+use Rattle.words.specs.Words.{pairOf}
+use Rattle.words.specs.Refusal.{Refusal, refuse}
 use Rattle.members.specs.Members.{member, oneApart, majority, allPass, somePass, mostPass}
 use Rattle.algorithm.specs.Table.{Config, Log, Server, Table, count, server, primary, secondary, termAt, mark, withServer, changed, withMark, withConfig, withEntry, withoutLast, ceiling, positions}
 use Rattle.algorithm.specs.Comparisons.{newer, last, ahead, held, prefix}
@@ -26,14 +28,6 @@ iOf bs = byte bs 1
 -- server j
 abbrev pub jOf : List ℕ → ℕ
 jOf bs = byte bs 2
-
--- a number of two bytes, the low one first
-abbrev pub pairOf : ℕ → ℕ → ℕ
-pairOf low high = low + 256 * high
-
--- the two bytes of a number
-abbrev pub half : ℕ → List ℕ
-half v = v % 256 ∷ v / 256 % 256 ∷ []
 
 -- the set
 abbrev pub setOf : List ℕ → ℕ
@@ -64,15 +58,6 @@ abbrev pub actionOf : List ℕ → Action
 actionOf bs = getD (kinds (iOf bs) (jOf bs) (setOf bs)) (kindOf bs) unknown
 
 -- ---- what the kinds share
-
--- a refusal: its number, and whether it holds
-pub record Refusal : Type 0 where
-  pub number : ℕ
-  pub holds : Bool
-
--- refusal k, which holds where b does
-abbrev pub refuse : ℕ → Bool → Refusal
-refuse k b = record { number = k; holds = b }
 
 -- the server with the term T, secondary
 abbrev pub steppedDown : ℕ → Server → Server

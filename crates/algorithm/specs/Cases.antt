@@ -5,7 +5,8 @@ use lib.ListN.{length}
 use Rattle.members.specs.Members.{one}
 use Rattle.algorithm.specs.Table.{entries, Table, server, withServer, withLog, freshServer, fresh}
 use Rattle.algorithm.specs.Comparisons.{newer, ahead}
-use Rattle.algorithm.specs.Actions.{half, winner}
+use Rattle.words.specs.Words.{half}
+use Rattle.algorithm.specs.Actions.{winner}
 use Rattle.algorithm.specs.Run.{run}
 
 infix 20 _gives_

@@ -1,10 +1,11 @@
 -- How configurations and logs compare. (What a majority is stands in the crate `members`.) Assumes nothing.
 use Prim.Native.Nat.{ℕ}
-use mathlib.Core.Bool.{Bool, true, false, _&&_, _||_}
+use mathlib.Core.Bool.{Bool, true, false, _||_, _&&_}
 use mathlib.Core.List.{[], _∷_}
 use lib.Dec.{ltb, eqb}
 use lib.ListN.{length}
-use Rattle.algorithm.specs.Table.{between, Config, Log, termAt}
+use Rattle.words.specs.Lists.{between}
+use Rattle.algorithm.specs.Table.{Config, Log, termAt}
 
 -- the numbers a and p come after b and q: by the first, and where these are equal by the second
 abbrev pub later : ℕ → ℕ → ℕ → ℕ → Bool

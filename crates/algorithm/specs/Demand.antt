@@ -3,7 +3,7 @@ use Prim.Native.Nat.{ℕ, _+_, _<_}
 use mathlib.Core.List.{List, [], _∷_, _++_}
 use Rattle.algorithm.specs.Table.{Table, server}
 use Rattle.algorithm.specs.Actions.{Action, unknown, elect, reconfigure, send, spread, write, fetch, rollBack, commit, actionOf}
-use Rattle.algorithm.specs.Refusals.{unlessRefused}
+use Rattle.words.specs.Refusal.{unlessRefused}
 use Rattle.algorithm.specs.Run.{step, pieces}
 
 -- the term that an action wins where it is taken: for an election i's term + 1, for any other kind none

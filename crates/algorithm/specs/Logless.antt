@@ -5,8 +5,9 @@ use mathlib.Core.Bool.{cond, not}
 use mathlib.Core.List.{List, [], _∷_, _++_}
 use mathlib.Core.Logic.{_⊎_}
 use mathlib.Core.Path.{_≡_}
-use lib.Dec.{T, eqb}
+use lib.Dec.{T}
 use Rattle.members.specs.Members.{member, Member, Majority, MajoritiesMeet, All, Most}
+use Rattle.words.specs.Lists.{put}
 use Rattle.algorithm.specs.Table.{Server, Table, absent, server, withConfig, withLog, freshServer}
 use Rattle.algorithm.specs.Comparisons.{newer}
 use Rattle.algorithm.specs.Actions.{steppedDown, winner, nextConfig}
@@ -18,10 +19,6 @@ State = ℕ → Server
 -- the servers of a table, their logs left out
 abbrev pub core : Table → State
 core t n = withLog [] (server t n)
-
--- f, but a at k
-unfoldable pub put : {A : Type 0} → (ℕ → A) → ℕ → A → ℕ → A
-put f k a n = cond (eqb n k) a (f n)
 
 -- kinds 1 to 4
 pub data Action : Type 0 where

@@ -1,12 +1,14 @@
 -- The refusals that every kind looks at, and all those of an action, lowest first. Assumes nothing.
 use Prim.Native.Nat.{ℕ}
-use mathlib.Core.Bool.{Bool, cond, not, _&&_, _||_}
+use mathlib.Core.Bool.{Bool, not, _||_, _&&_}
 use mathlib.Core.List.{List, [], _∷_, _++_}
 use lib.Dec.{eqb}
 use lib.ListN.{length}
 use Rattle.members.specs.Members.{within}
-use Rattle.algorithm.specs.Table.{between, Table, count, broken}
-use Rattle.algorithm.specs.Actions.{byte, kindOf, iOf, jOf, setOf, usesSet, usesJ, Action, unknown, elect, reconfigure, send, spread, write, fetch, rollBack, commit, actionOf, Refusal, refuse, electRefusals, reconfigureRefusals, sendRefusals, spreadRefusals, writeRefusals, fetchRefusals, rollBackRefusals, commitRefusals}
+use Rattle.words.specs.Lists.{between}
+use Rattle.algorithm.specs.Table.{Table, count, broken}
+use Rattle.algorithm.specs.Actions.{byte, kindOf, iOf, jOf, setOf, usesSet, usesJ, Action, unknown, elect, reconfigure, send, spread, write, fetch, rollBack, commit, actionOf, electRefusals, reconfigureRefusals, sendRefusals, spreadRefusals, writeRefusals, fetchRefusals, rollBackRefusals, commitRefusals}
+use Rattle.words.specs.Refusal.{Refusal, refuse}
 
 -- a field is not 0
 abbrev pub stray : ℕ → Bool
@@ -49,12 +51,3 @@ ownRefusals t (commit i Q) = commitRefusals t i Q
 -- all refusals of the action that the bytes name, lowest number first
 unfoldable pub refusals : Table → List ℕ → List Refusal
 refusals t bs = commonRefusals t bs ++ ownRefusals t (actionOf bs)
-
--- the number of the first refusal that holds; 0 where none does
-unfoldable pub first : List Refusal → ℕ
-first [] = 0
-first (r ∷ rs) = cond (r .holds) (r .number) (first rs)
-
--- a where the number says that nothing is refused, and b where it is a refusal's
-abbrev pub unlessRefused : {A : Type 0} → ℕ → A → A → A
-unlessRefused k a b = cond (eqb k 0) a b

@@ -4,7 +4,8 @@ use mathlib.Core.List.{List, [], _∷_}
 use lib.ListN.{length, take, drop}
 use Rattle.algorithm.specs.Table.{Table}
 use Rattle.algorithm.specs.Actions.{Action, unknown, elect, reconfigure, send, spread, write, fetch, rollBack, commit, actionOf, electAfter, reconfigureAfter, sendAfter, spreadAfter, writeAfter, fetchAfter, rollBackAfter, commitAfter}
-use Rattle.algorithm.specs.Refusals.{refusals, first, unlessRefused}
+use Rattle.algorithm.specs.Refusals.{refusals}
+use Rattle.words.specs.Refusal.{first, unlessRefused}
 
 -- the table after the action, where it is taken; an unknown one never is
 unfoldable pub after : Table → Action → Table

@@ -1,34 +1,11 @@
 -- The table: its figures, its rules, and a fresh one. Assumes nothing.
 use Prim.Native.Nat.{ℕ, zero, suc, _-_}
-use mathlib.Core.Bool.{Bool, true, not, _&&_, _||_}
+use mathlib.Core.Bool.{Bool, not, _||_, _&&_}
 use mathlib.Core.List.{List, [], _∷_, _++_, map}
 use lib.Dec.{leb, eqb}
-use lib.ListN.{length, getD, set, take, replicate}
+use lib.ListN.{length, set, take, replicate}
+use Rattle.words.specs.Lists.{nth, replace, every, between}
 use Rattle.members.specs.Members.{within}
-
--- ---- lists counted from 1
-
-module _ {A : Type 0} where
-  -- element i of a list, counted from 1, and d where there is none
-  unfoldable pub nth : List A → ℕ → A → A
-  nth l zero d = d
-  nth l (suc k) d = getD l k d
-
-  -- the list with a for its element i; as it is where it has none
-  unfoldable pub replace : List A → ℕ → A → List A
-  replace l zero a = l
-  replace l (suc k) a = set l k a
-
-  -- every element passes p
-  unfoldable pub every : (A → Bool) → List A → Bool
-  every p [] = true
-  every p (a ∷ l) = p a && every p l
-
--- ---- numbers within bounds
-
--- v is from low to high
-abbrev pub between : ℕ → ℕ → ℕ → Bool
-between low high v = leb low v && leb v high
 
 -- ---- figures
 

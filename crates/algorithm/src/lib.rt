@@ -2,8 +2,9 @@
 ghost use mathlib.Core.Path.{_≡_};
 ghost use lib.Dec.{ltb, eqb};
 ghost use lib.ListN.{length};
-ghost use Rattle.algorithm.specs.Actions.{pairOf, setOf};
+ghost use Rattle.algorithm.specs.Actions.{setOf};
 ghost use Rattle.algorithm.specs.Reply.{numberOf};
+use words::pair;
 
 // The two roles.
 pub const SECONDARY: u32 = 0;
@@ -54,13 +55,6 @@ pub fn position_below(p: Position, q: Position) -> bool
     ensures { λ r. ⌜ r ≡ ltb (p .0) (q .0) ⌝ }
 {
     p.0 < q.0
-}
-
-// A number of two bytes, the low one first.
-pub fn pair(low: u8, high: u8) -> u16
-    ensures { λ r. ⌜ r ≡ pairOf low high ⌝ }
-{
-    low as u16 + 256 * (high as u16)
 }
 
 // The set of an action.

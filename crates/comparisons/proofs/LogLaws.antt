@@ -3,13 +3,14 @@ use Prim.Native.Nat.{ℕ, _+_, _≤_, _<_}
 use native.Mathlib.Numerals.{add-one}
 use native.Mathlib.Omega.{arith}
 use mathlib.Core.Path.{_≡_, refl, sym, _∙_}
-use mathlib.Core.Bool.{Bool, true, false, not, _&&_, and-true, and-false, and-assoc}
+use mathlib.Core.Bool.{Bool, true, false, not, and-true, and-false, and-assoc, _&&_}
 use mathlib.Core.List.{[], _∷_}
 use lib.Dec.{eqb, leb, ltb}
 use lib.ListN.{length, drop}
 use lib.Seq.{drop-cons, drop-length}
 use borrow.Author.Tests.{ltb-true, ltb-false, eq-eqb, ne-eqb, le-leb, lt-leb}
-use Rattle.algorithm.specs.Table.{Entry, Log, nth, termAt}
+use Rattle.algorithm.specs.Table.{Entry, Log, termAt}
+use Rattle.words.specs.Lists.{nth}
 use Rattle.algorithm.specs.Comparisons.{last, held, prefix}
 use Rattle.algorithm.specs.Actions.{joins}
 

@@ -8,7 +8,7 @@ use Rattle.algorithm.specs.Actions.{steppedDown, reconfigureAfter, sendAfter, s
 use Rattle.table.specs.Layout.{tableIn}
 use Rattle.table.specs.Slice.{Holds, Held, Became, Within, seen}
 use Rattle.table.specs.declared.rows.Row.{Row}
-use Rattle.table.proofs.ListLaws.{nth-replaced, replace-replace}
+use Rattle.words.proofs.Lists.{nth-replaced, replace-replace}
 use Rattle.table.proofs.HeldLaws.{its-table, its-room}
 
 -- ---- one put after another

@@ -7,13 +7,14 @@ use mathlib.Core.Bool.{Bool, true, false, cond}
 use mathlib.Core.List.{List, [], _∷_}
 use lib.ListN.{length, getD, set}
 use Rattle.members.specs.Members.{bit, member, within}
-use Rattle.algorithm.specs.Table.{nth, replace, Config, Server, Table, count, absent, server, withServer, withRole, withTerm, withConfig}
+use Rattle.words.specs.Lists.{nth, replace}
+use Rattle.algorithm.specs.Table.{Config, Server, Table, count, absent, server, withServer, withRole, withTerm, withConfig}
 use Rattle.algorithm.specs.Actions.{steppedDown, votersFrom, voted, electAfter}
 use Rattle.algorithm.proofs.Seen.{log-voted}
 use Rattle.table.specs.Layout.{tableIn}
 use Rattle.table.specs.Slice.{Holds, Held, Became, Within, seen}
 use Rattle.table.specs.declared.rows.Row.{Row}
-use Rattle.table.proofs.ListLaws.{replace-nth}
+use Rattle.words.proofs.Lists.{replace-nth}
 use Rattle.table.proofs.HeldLaws.{its-table}
 use Rattle.doers.proofs.PutLaws.{then-put}
 

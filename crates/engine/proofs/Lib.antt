@@ -3,4 +3,4 @@ pub mod ReadyLaws
 pub mod PieceLaws
 pub mod StepLaws
 pub mod RunLaws
-pub mod Unique
+pub mod StepUnique

@@ -1,48 +1,26 @@
 -- Laws of one step: the form is judged, then the action, then it is done. Assumes nothing.
 use Prim.Native.Nat.{ℕ, zero, suc}
-use mathlib.Core.Bool.{Bool, true, false, cond, not}
+use mathlib.Core.Bool.{false}
 use mathlib.Core.Path.{_≡_, refl, ap, sym, _∙_}
-use mathlib.Core.List.{List, [], _∷_, _++_}
-use lib.Dec.{T, eqb}
+use mathlib.Core.List.{List, _++_}
+use lib.Dec.{eqb}
 use borrow.Author.Tests.{eq-eqb, ne-eqb}
-use mir.Facts.{and-yes, eqb-no}
-use Rattle.members.proofs.Tests.{fails-false, false-fails}
+use Rattle.words.proofs.Tests.{fails-false, false-fails}
+use Rattle.words.proofs.RefusalLaws.{first-held, first-none}
 use Rattle.algorithm.specs.declared.Reply.{Reply}
 use Rattle.algorithm.specs.declared.Reply.the-variants.{Taken, Refused}
 use Rattle.algorithm.specs.Reply.{numberOf, replyOf}
-use Rattle.algorithm.specs.Table.{every, count}
-use Rattle.algorithm.specs.Actions.{Refusal, actionOf}
-use Rattle.algorithm.specs.Refusals.{formRefusals, ownRefusals, refusals, first}
+use Rattle.words.specs.Lists.{every}
+use Rattle.algorithm.specs.Table.{count}
+use Rattle.words.specs.Refusal.{first}
+use Rattle.algorithm.specs.Actions.{actionOf}
+use Rattle.algorithm.specs.Refusals.{formRefusals, ownRefusals, refusals}
 use Rattle.algorithm.specs.Run.{after, step}
 use Rattle.algorithm.proofs.Kept.{step-sound}
 use Rattle.table.specs.Layout.{tableIn}
 use Rattle.table.specs.Slice.{Holds}
 use Rattle.table.proofs.HeldLaws.{its-table, held}
 use Rattle.engine.specs.Engine.{Ready, Stepped}
-
--- ---- the first refusal of two lists
-
-first-held : (xs ys : List Refusal) → (first xs ≡ 0 → ⊥) → first (xs ++ ys) ≡ first xs
-unfolding first
-first-held [] ys h = absurd (h refl)
-first-held (r ∷ xs) ys h = go (r .holds) h (first-held xs ys)
-  where
-    go : (b : Bool) → (cond b (r .number) (first xs) ≡ 0 → ⊥) → ((first xs ≡ 0 → ⊥) → first (xs ++ ys) ≡ first xs)
-        → cond b (r .number) (first (xs ++ ys)) ≡ cond b (r .number) (first xs)
-    go true h rest = refl
-    go false h rest = rest h
-
-first-none : (xs ys : List Refusal) → T (every (λ r. not (eqb (r .number) 0)) xs) → first xs ≡ 0 → first (xs ++ ys) ≡ first ys
-unfolding first every
-first-none [] ys p e = refl
-first-none (r ∷ xs) ys p e =
-    let (here, later) = and-yes (not (eqb (r .number) 0)) (every (λ r. not (eqb (r .number) 0)) xs) p in
-    go (r .holds) here e (first-none xs ys later)
-  where
-    go : (b : Bool) → T (not (eqb (r .number) 0)) → cond b (r .number) (first xs) ≡ 0 → (first xs ≡ 0 → first (xs ++ ys) ≡ first ys)
-        → cond b (r .number) (first (xs ++ ys)) ≡ first ys
-    go true here e rest = absurd (eqb-no here e)
-    go false here e rest = rest e
 
 -- ---- replies
 

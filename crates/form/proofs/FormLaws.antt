@@ -2,16 +2,16 @@
 use Prim.Native.Nat.{ℕ, zero, suc, _/_, _%_, _^_, _≤_, _<_}
 use native.Mathlib.Omega.{arith}
 use mathlib.Core.Path.{_≡_, refl, sym, _∙_}
-use mathlib.Core.Bool.{Bool, true, false, not, _&&_, and-true, or-false}
+use mathlib.Core.Bool.{Bool, true, false, not, and-true, or-false, _&&_}
 use mathlib.Core.List.{List}
 use lib.Dec.{eqb, leb}
 use lib.ListN.{length, drop}
 use borrow.Author.Tests.{eq-eqb, ne-eqb}
-use Rattle.members.proofs.Tests.{Passes, Fails, both, neither, refuted, both-refuted, false-fails, equal, at-most}
+use Rattle.words.proofs.Tests.{Passes, Fails, both, neither, refuted, both-refuted, false-fails, equal, at-most}
 use Rattle.algorithm.specs.Actions.{kindOf, iOf, jOf, setOf, usesSet, usesJ}
-use Rattle.algorithm.specs.Refusals.{strayZero, known, formRefusals, first}
-use Rattle.algorithm.proofs.Refused.{NoneHold}
-use Rattle.form.specs.Refused.{holdsIn}
+use Rattle.algorithm.specs.Refusals.{strayZero, known, formRefusals}
+use Rattle.words.specs.Refusal.{first, holdsIn}
+use Rattle.words.proofs.RefusalLaws.{NoneHold}
 use Rattle.form.specs.Fields.{pairRefusals, setRefusals, loneRefusals}
 
 -- ---- refusal 2

@@ -1,3 +1,2 @@
 -- The laws of an action's form.
-pub mod RefusalLaws
 pub mod FormLaws

@@ -3,7 +3,7 @@ use Prim.Native.Nat.{ℕ}
 use mathlib.Core.Bool.{not, _||_}
 use mathlib.Core.List.{List, [], _∷_}
 use Rattle.members.specs.Members.{within}
-use Rattle.algorithm.specs.Actions.{Refusal, refuse}
+use Rattle.words.specs.Refusal.{Refusal, refuse}
 use Rattle.algorithm.specs.Refusals.{stray, known}
 
 -- i and j

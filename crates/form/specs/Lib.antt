@@ -1,3 +1,2 @@
 -- What is said against the form of an action.
-pub mod Refused
 pub mod Fields

@@ -6,10 +6,10 @@ use mathlib.Core.Path.{_≡_, refl, sym, _∙_}
 use mathlib.Core.List.{List, [], _∷_, _++_, append-assoc, flatten}
 use lib.ListN.{length, getD, take, drop, length-append}
 use lib.Seq.{getD-append-add, take-append-seam, drop-at}
-use Rattle.algorithm.specs.Actions.{half}
-use Rattle.contents.specs.Contents.{firstBody, halfAt, offset, size, stop}
+use Rattle.words.specs.Words.{half, halfAt}
+use Rattle.image.specs.Contents.{firstBody, offset, size, stop}
 use Rattle.image.specs.Image.{opening, contents}
-use Rattle.bodies.specs.Bodies.{body}
+use Rattle.image.specs.Bodies.{body}
 
 -- a number of two bytes is read back
 pub half-back : (v : ℕ) → v < 65536 → v % 256 + 256 * (v / 256 % 256) ≡ v

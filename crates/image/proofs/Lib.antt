@@ -1,8 +1,4 @@
--- The laws of the reader.
-pub mod FillLaws
-pub mod ReplyLaws
-pub mod SoundRead
+-- The laws of an image's contents and bodies, and of the image of a table.
+pub mod ContentsLaws
+pub mod BodyLaws
 pub mod ImageLaws
-pub mod BodyBack
-pub mod ReadBack
-pub mod Theorems

@@ -3,10 +3,9 @@ use Prim.Native.Nat.{ℕ, _+_}
 use mathlib.Core.List.{List, [], _∷_, _++_, map, flatten}
 use lib.ListN.{length}
 use Rattle.algorithm.specs.Table.{Server, Table, count, trimmed}
-use Rattle.algorithm.specs.Actions.{half}
-use Rattle.words.specs.Words.{bytes}
+use Rattle.words.specs.Words.{half, bytes}
 use Rattle.table.specs.Layout.{terms}
-use Rattle.contents.specs.Contents.{firstBody}
+use Rattle.image.specs.Contents.{firstBody}
 
 -- the letters SITE, the number of servers, three 0
 abbrev pub opening : ℕ → List ℕ

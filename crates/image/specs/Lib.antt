@@ -1,4 +1,5 @@
--- A table as an image. In the order to read: the image of a table, the reader's replies, the table while it is filled.
+-- The format. In the order to read: the image of a table; of any bytes, their opening and contents, their bodies; what the functions ask.
+pub mod Contents
 pub mod Image
-pub mod Reader
-pub mod Filling
+pub mod Bodies
+pub mod Asked

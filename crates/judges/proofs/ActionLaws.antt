@@ -5,10 +5,12 @@ use mathlib.Core.Path.{_≡_}
 use mathlib.Core.Bool.{true}
 use mathlib.Core.List.{List, [], append-nil}
 use lib.ListN.{length, getD}
-use Rattle.algorithm.specs.Table.{Table, every, count}
+use Rattle.algorithm.specs.Table.{Table, count}
+use Rattle.words.specs.Lists.{every}
 use Rattle.algorithm.specs.Actions.{kindOf, iOf, jOf, setOf, usesJ, unknown, kinds, actionOf, commitRefusals}
-use Rattle.algorithm.specs.Refusals.{formRefusals, ownRefusals, first}
-use Rattle.algorithm.proofs.Refused.{NoneHold, first-later}
+use Rattle.algorithm.specs.Refusals.{formRefusals, ownRefusals}
+use Rattle.words.specs.Refusal.{first}
+use Rattle.words.proofs.RefusalLaws.{NoneHold, first-later}
 use Rattle.table.specs.Layout.{tableIn}
 use Rattle.table.specs.Slice.{Within}
 use Rattle.table.proofs.HeldLaws.{known-within}

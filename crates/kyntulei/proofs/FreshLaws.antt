@@ -11,9 +11,9 @@ use mir.Val.{Fits}
 use lib.ListN.{length}
 use borrow.Author.Tests.{eq-eqb, ne-eqb, le-leb, lt-leb}
 use Rattle.members.specs.Members.{within}
-use Rattle.members.proofs.Tests.{Passes}
+use Rattle.words.proofs.Tests.{Passes}
 use Rattle.algorithm.specs.Table.{fresh}
-use Rattle.algorithm.specs.Refusals.{first}
+use Rattle.words.specs.Refusal.{first}
 use Rattle.algorithm.proofs.Seen.{within-width}
 use Rattle.table.specs.Layout.{tableBytes, stored}
 use Rattle.kyntulei.specs.Promise.{freshReply, FreshAnswer}

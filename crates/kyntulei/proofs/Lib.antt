@@ -1,6 +1,6 @@
 -- What the exported functions keep, and what follows of their promises.
 pub mod FreshLaws
-pub mod AnswerLaws
+pub mod CallLaws
 pub mod Meaning
-pub mod Unique
+pub mod CallUnique
 pub mod Reached

@@ -6,10 +6,12 @@ use mathlib.Core.Path.{_≡_, refl, sym, ap, _∙_}
 use lib.ListN.{take, drop}
 use lib.Seq.{take-at}
 use borrow.Author.Tests.{eq-eqb}
-use Rattle.members.proofs.Tests.{refuted, both, fails-false, at-most}
-use Rattle.algorithm.specs.Table.{Table, every, broken, fresh}
+use Rattle.words.proofs.Tests.{refuted, both, fails-false, at-most}
+use Rattle.algorithm.specs.Table.{Table, broken, fresh}
+use Rattle.words.specs.Lists.{every}
 use Rattle.algorithm.specs.Run.{step, runTo}
-use Rattle.algorithm.proofs.Refused.{first-later, refused-stays}
+use Rattle.words.proofs.RefusalLaws.{first-later}
+use Rattle.algorithm.proofs.Refused.{refused-stays}
 use Rattle.algorithm.proofs.Kept.{fresh-sound}
 use Rattle.algorithm.proofs.Runs.{replies-count}
 use Rattle.table.specs.Layout.{stored, tableIn, whole}

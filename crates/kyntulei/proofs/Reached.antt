@@ -12,7 +12,7 @@ use borrow.Author.Tests.{ne-eqb}
 use Rattle.algorithm.specs.Table.{Table, server, primary, mark, broken, fresh}
 use Rattle.algorithm.specs.Comparisons.{held}
 use Rattle.algorithm.specs.Actions.{actionOf}
-use Rattle.algorithm.specs.Refusals.{unlessRefused}
+use Rattle.words.specs.Refusal.{unlessRefused}
 use Rattle.algorithm.specs.Run.{step, pieces, play}
 use Rattle.algorithm.specs.Demand.{wins, wonBy, wonAlong, termsWon, Rising}
 use Rattle.algorithm.proofs.Runs.{play-sound, play-append, won-append, pieces-append}
@@ -20,10 +20,10 @@ use Rattle.algorithm.proofs.Demands.{won-rise, not-given-24, primary-complete}
 use Rattle.table.specs.Layout.{stored, tableIn, whole}
 use Rattle.table.proofs.StoredLaws.{stored-table}
 use Rattle.whole.proofs.Determined.{stored-whole, whole-stored, whole-sound}
-use Rattle.image.specs.Reader.{ReadAnswer}
-use Rattle.image.proofs.ReplyLaws.{read-sized, kept-bytes}
+use Rattle.reader.specs.Reader.{ReadAnswer}
+use Rattle.reader.proofs.ReplyLaws.{read-sized, kept-bytes}
 use Rattle.writer.specs.Writer.{WriteAnswer}
-use Rattle.writer.proofs.Theorems.{read-saved}
+use Rattle.writer.proofs.WriteTheorems.{read-saved}
 use Rattle.engine.specs.Engine.{played}
 use Rattle.kyntulei.specs.Promise.{FreshAnswer, freshReply, StepAnswer, stepReply, stepBytes, RunAnswer, runReplies, runBytes}
 use Rattle.kyntulei.specs.Reached.{Calls, none, stepped, ran, carried, unread, unfilled, Reached}

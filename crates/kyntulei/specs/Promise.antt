@@ -7,8 +7,7 @@ use lib.Dec.{eqb}
 use lib.ListN.{length, drop, replicate}
 use Rattle.members.specs.Members.{within}
 use Rattle.algorithm.specs.Table.{soundCount, fresh}
-use Rattle.algorithm.specs.Actions.{Refusal, refuse}
-use Rattle.algorithm.specs.Refusals.{first, unlessRefused}
+use Rattle.words.specs.Refusal.{Refusal, refuse, first, unlessRefused}
 use Rattle.algorithm.specs.Run.{step, runTo}
 use Rattle.table.specs.Layout.{tableBytes, stored, tableIn, whole}
 use Rattle.engine.specs.Engine.{played}

@@ -3,7 +3,7 @@ use Prim.Native.Nat.{ℕ, _<_}
 use mathlib.Core.List.{List, [], _∷_, _++_}
 use lib.ListN.{take}
 use Rattle.algorithm.specs.Run.{pieces}
-use Rattle.image.specs.Reader.{ReadAnswer}
+use Rattle.reader.specs.Reader.{ReadAnswer}
 use Rattle.writer.specs.Writer.{WriteAnswer}
 use Rattle.kyntulei.specs.Promise.{FreshAnswer, StepAnswer, RunAnswer}
 

@@ -1,17 +1,17 @@
 // The engine for the store's release harness: numbers and byte slices in, a number and filled slices out (include/kyntulei.h).
 ghost use mathlib.Core.Path.{_≡_};
 ghost use Rattle.table.specs.Layout.{tableBytes};
-ghost use Rattle.image.specs.Reader.{ReadAnswer};
+ghost use Rattle.reader.specs.Reader.{ReadAnswer};
 ghost use Rattle.writer.specs.Writer.{WriteAnswer};
 ghost use Rattle.kyntulei.specs.Promise.{FreshAnswer, StepAnswer, RunAnswer};
 use algorithm::number;
 use engine::refuse_all;
 use engine::run;
 use engine::step;
-use fresh::fill_fresh;
-use image::read;
 use members::is_within;
+use reader::read;
 use table::BYTES;
+use whole::fresh::fill_fresh;
 use whole::is_whole;
 use writer::write;
 

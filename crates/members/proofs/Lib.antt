@@ -1,5 +1,4 @@
 -- The laws of sets of servers.
-pub mod Tests
 pub mod Counting
 pub mod Masks
 pub mod Majorities

@@ -1,6 +1,6 @@
 -- The laws of majorities: when they meet, what they have in common, and what the tests on members mean. Assumes nothing.
 use mathlib.Core.Path.{_≡_, refl, sym, ap, subst, _∙_}
-use mathlib.Core.Bool.{Bool, true, false, _&&_, _||_}
+use mathlib.Core.Bool.{Bool, true, false, _||_, _&&_}
 use mathlib.Core.Logic.{_⊎_, inl, inr, ⊎-elim}
 use Prim.Native.Nat.{ℕ, zero, suc, _+_, _^_, _≤_, _<_}
 use native.Mathlib.Nat.{eq-or-lt-of-le}
@@ -10,7 +10,7 @@ use lib.Bits.{bitAnd, bitXor, and-self}
 use lib.Count.{ones}
 use mir.Facts.{and-yes, yes-and}
 use Rattle.members.specs.Members.{member, Member, Subset, oneApart, Majority, majority, Meet, MajoritiesMeet, All, Some, Most, Hits, mask, allPass, somePass, mostPass}
-use Rattle.members.proofs.Tests.{Passes, Fails, both, together, contradiction, fails, equal, less, is-equal, is-less}
+use Rattle.words.proofs.Tests.{Passes, Fails, both, together, contradiction, fails, equal, less, is-equal, is-less}
 use Rattle.members.proofs.Counting.{count, count-some, count-mono, count-both, count-unlike}
 use Rattle.members.proofs.Masks.{fits, ext, ones-count, ones-shared, ones-unlike, and-member, in-mask, mask-in, member-pos, member-le, a-member, member-some}
 

@@ -1,7 +1,7 @@
 -- A mask and the test "is a member": the count of ones is the count of members, `&` and `^` work member by member,
 -- masks with the same members are equal, and each test on servers has its mask. Assumes nothing.
 use mathlib.Core.Path.{_≡_, refl, sym, ap, ap₂, subst, _∙_}
-use mathlib.Core.Bool.{Bool, true, false, _&&_, and-assoc}
+use mathlib.Core.Bool.{Bool, true, false, and-assoc, _&&_}
 use mathlib.Core.Logic.{_⊎_, inl, inr}
 use Prim.Native.Nat.{ℕ, zero, suc, _+_, _-_, _*_, _/_, _%_, _^_, _≤_, _<_, min}
 use native.Mathlib.Nat.{mod-lt, mod-one, mod-eq-of-lt, div-eq-of-lt, div-lt-iff-lt-mul, eq-or-lt-of-le, zero-lt-suc, lt-of-lt-of-le, pow-suc}

@@ -9,7 +9,7 @@ use lib.Dec.{T}
 use lib.Pow.{pow-pos}
 use lib.Bits.{bitXor}
 use lib.Count.{ones}
-use Rattle.members.proofs.Tests.{Passes, both, together, equal, less, is-equal, is-less}
+use Rattle.words.proofs.Tests.{Passes, both, together, equal, less, is-equal, is-less}
 use Rattle.members.proofs.Counting.{count, count-some, count-one, one-count, unlike}
 use Rattle.members.specs.Members.{member, Member, within, oneApart}
 use Rattle.members.proofs.Masks.{fits, ext, ones-unlike, bit-low, member-pos, member-le, member-above, a-member, member-some}

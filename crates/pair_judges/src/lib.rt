@@ -1,10 +1,9 @@
 // Send, spread, write, fetch and roll back: the kinds that look at one server or two.
 ghost use mathlib.Core.Path.{_≡_};
 ghost use Rattle.algorithm.specs.Actions.{sendRefusals, spreadRefusals, writeRefusals, fetchRefusals, rollBackRefusals};
-ghost use Rattle.algorithm.specs.Refusals.{first};
+ghost use Rattle.words.specs.Refusal.{first, holdsIn};
 ghost use Rattle.table.specs.Layout.{tableIn};
 ghost use Rattle.table.specs.Slice.{Held, Within};
-ghost use Rattle.form.specs.Refused.{holdsIn};
 use algorithm::POSITIONS;
 use algorithm::PRIMARY;
 use algorithm::SECONDARY;

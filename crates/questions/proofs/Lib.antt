@@ -1,6 +1,6 @@
 -- The laws of questions.
-pub mod AnswerLaws
+pub mod MaskLaws
 pub mod LoopLaws
 pub mod MarkLaws
 pub mod ServerLaws
-pub mod Unique
+pub mod QuestionUnique

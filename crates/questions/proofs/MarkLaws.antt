@@ -4,7 +4,7 @@ use native.Mathlib.Nat.{add-zero, add-suc}
 use native.Mathlib.Numerals.{add-one}
 use native.Mathlib.Omega.{arith}
 use mathlib.Core.Path.{_≡_, refl, sym, ap, _∙_}
-use mathlib.Core.Bool.{Bool, true, false, not, cond, _&&_, _||_, and-true, and-comm}
+use mathlib.Core.Bool.{Bool, true, false, not, cond, _||_, and-true, and-comm, _&&_}
 use mathlib.Core.List.{List, [], _∷_}
 use lib.Dec.{eqb}
 use lib.ListN.{length, getD, take, drop, length-drop}
@@ -12,10 +12,10 @@ use lib.Seq.{getD-drop, take-all}
 use borrow.Author.Tests.{not-true}
 use Rattle.members.specs.Members.{passing}
 use Rattle.members.proofs.Masks.{and-both}
-use Rattle.algorithm.specs.Table.{nth, Table, count, server, mark, positions}
+use Rattle.words.specs.Lists.{nth, part}
+use Rattle.algorithm.specs.Table.{Table, count, server, mark, positions}
 use Rattle.algorithm.specs.Comparisons.{held}
 use Rattle.algorithm.specs.Actions.{sameTerm, someMarked, holdsMarked, holdsCommitted, supportsAt}
-use Rattle.words.specs.Words.{part}
 use Rattle.table.specs.Layout.{tableIn}
 use Rattle.table.specs.Slice.{Held}
 use Rattle.questions.specs.Marks.{narrowedAt, narrowedPast}

@@ -5,7 +5,7 @@ ghost use Prim.Native.Nat.{_+_, _≤_};
 ghost use Rattle.members.specs.Members.{passing};
 ghost use Rattle.algorithm.specs.Table.{count, server, positions};
 ghost use Rattle.algorithm.specs.Actions.{sameTerm, someMarked, holdsCommitted};
-ghost use Rattle.words.specs.Words.{part};
+ghost use Rattle.words.specs.Lists.{part};
 ghost use Rattle.table.specs.Layout.{tableIn};
 ghost use Rattle.table.specs.Slice.{Held, Within};
 ghost use Rattle.questions.specs.Marks.{narrowedAt, narrowedPast};

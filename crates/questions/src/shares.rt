@@ -1,6 +1,6 @@
 // The members of a set that share what server i has.
-ghost use mathlib.Core.Path.{_≡_};
 ghost use mathlib.Core.Bool.{_&&_};
+ghost use mathlib.Core.Path.{_≡_};
 ghost use Prim.Native.Nat.{_+_, _≤_, _<_, _^_};
 ghost use Rattle.members.specs.Members.{bit, passing};
 ghost use Rattle.algorithm.specs.Table.{count, positions};

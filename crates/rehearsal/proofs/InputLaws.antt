@@ -12,10 +12,10 @@ use Rattle.table.specs.Layout.{tableBytes, tableIn}
 use Rattle.table.proofs.HeldLaws.{its-table}
 use Rattle.table.proofs.StoredLaws.{stored-table}
 use Rattle.engine.specs.Engine.{played, Played}
-use Rattle.image.specs.Reader.{readTable, readEnd, ReadAnswer}
-use Rattle.image.proofs.ReplyLaws.{read-into, read-upto}
-use Rattle.image.proofs.Theorems.{not-broken}
-use Rattle.texts.specs.Buffer.{Wrote, WroteShort}
+use Rattle.reader.specs.Reader.{readTable, readEnd, ReadAnswer}
+use Rattle.reader.proofs.ReplyLaws.{read-into, read-upto}
+use Rattle.reader.proofs.ReadTheorems.{not-broken}
+use Rattle.buffer.specs.Buffer.{Wrote, WroteShort}
 use Rattle.report.specs.Lines.{badSiteLine, tooLongLine}
 use Rattle.report.specs.Report.{repliedLines, cutLines, tableLines, wholeActions, playedLines}
 use Rattle.rehearsal.specs.Printed.{longest, siteReply, inputLines, printed}

@@ -11,18 +11,19 @@ use lib.ListN.{length, getD, take, drop}
 use lib.Seq.{getD-append-add, take-at}
 use borrow.Author.Tests.{lt-ltb, le-ltb, ne-eqb}
 use mir.Facts.{and-yes, eqb-no}
-use Rattle.algorithm.specs.Table.{Table, Server, every, trimmed, broken, fresh}
+use Rattle.algorithm.specs.Table.{Table, Server, trimmed, broken, fresh}
+use Rattle.words.specs.Lists.{every}
 use Rattle.algorithm.specs.Run.{pieces, pieceCount, Ran, play, run}
 use Rattle.algorithm.proofs.Runs.{play-sound, play-append}
 use Rattle.algorithm.proofs.Demands.{not-given-24}
 use Rattle.table.specs.Slice.{seen}
 use Rattle.image.specs.Image.{image}
-use Rattle.texts.specs.Texts.{text, digits, decimal, field, fields}
-use Rattle.texts.specs.Buffer.{Wrote}
+use Rattle.buffer.specs.Texts.{text, digits, decimal, field, fields}
+use Rattle.buffer.specs.Buffer.{Wrote}
 use Rattle.report.specs.Lines.{reply, repliedLine, cutLine, tooLongLine, letter, figures, shownRow, rowLine, marksLine}
 use Rattle.report.specs.Report.{numbered, repliedLines, rowLines, tableLines, wholeActions, cutLines, playedLines}
 use Rattle.rehearsal.specs.Printed.{longest, inputLines, printed}
-use Rattle.rehearsal.proofs.Theorems.{image-lines}
+use Rattle.rehearsal.proofs.PrintedTheorems.{image-lines}
 
 -- ---- bytes in which something does not occur
 

@@ -7,12 +7,13 @@ use mathlib.Core.List.{List, [], _∷_, _++_, append-assoc, append-nil, flatten}
 use lib.ListN.{length, getD, take}
 use lib.Seq.{take-all}
 use borrow.Author.Tests.{eq-eqb, ne-eqb}
-use Rattle.algorithm.specs.Table.{absent, nth, count, server}
+use Rattle.algorithm.specs.Table.{absent, count, server}
+use Rattle.words.specs.Lists.{nth}
 use Rattle.table.specs.Layout.{tableIn}
 use Rattle.table.specs.Slice.{Held, seen}
 use Rattle.table.specs.declared.rows.Row.{Row}
-use Rattle.texts.specs.Buffer.{WroteShort}
-use Rattle.texts.proofs.WroteLaws.{wrote-none, then}
+use Rattle.buffer.specs.Buffer.{WroteShort}
+use Rattle.buffer.proofs.WroteLaws.{wrote-none, then}
 use Rattle.report.specs.Lines.{repliedLine, cutLine, shownRow, rowLine, marksLine}
 use Rattle.report.specs.Report.{numbered, repliedLines, cutLines, rowLines, tableLines}
 

@@ -4,9 +4,9 @@ use mathlib.Core.Bool.{cond}
 use mathlib.Core.List.{List, [], _∷_, flatten}
 use lib.Dec.{ltb}
 use lib.ListN.{length, drop, replicate}
-use Rattle.algorithm.specs.Refusals.{unlessRefused}
+use Rattle.words.specs.Refusal.{unlessRefused}
 use Rattle.table.specs.Layout.{tableBytes}
-use Rattle.image.specs.Reader.{readReply, readTable, readEnd}
+use Rattle.reader.specs.Reader.{readReply, readTable, readEnd}
 use Rattle.report.specs.Lines.{badSiteLine, tooLongLine}
 use Rattle.report.specs.Report.{playedLines}
 

@@ -7,9 +7,9 @@ ghost use Rattle.report.specs.Report.{repliedLines, cutLines, rowLines, tableLi
 ghost use Rattle.rehearsal.specs.Printed.{longest, printed};
 ghost use Rattle.table.specs.Layout.{tableIn};
 ghost use Rattle.table.specs.Slice.{Held};
-ghost use Rattle.texts.specs.Buffer.{Wrote, WroteShort};
+ghost use Rattle.buffer.specs.Buffer.{Wrote, WroteShort};
 use engine::run;
-use image::read;
+use reader::read;
 use report::MOST;
 use report::PIECES;
 use report::bad_site_line;

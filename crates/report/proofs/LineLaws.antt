@@ -7,11 +7,11 @@ use lib.ListN.{length, take}
 use borrow.Author.Tests.{eq-eqb, ne-eqb}
 use Rattle.algorithm.specs.Table.{trimmed}
 use Rattle.table.specs.declared.rows.Row.{Row}
-use Rattle.marks.proofs.MarkLaws.{trimmed-take}
-use Rattle.texts.specs.Texts.{text, decimal, field, fields}
+use Rattle.table.proofs.MarkLaws.{trimmed-take}
+use Rattle.buffer.specs.Texts.{text, decimal, field, fields}
 use Rattle.report.specs.Lines.{reply, repliedLine, cutLine, badSiteLine, tooLongLine, letter, figures, shownRow, marksLine}
-use Rattle.texts.specs.Buffer.{Wrote, WroteShort}
-use Rattle.texts.proofs.WroteLaws.{then}
+use Rattle.buffer.specs.Buffer.{Wrote, WroteShort}
+use Rattle.buffer.proofs.WroteLaws.{then}
 
 -- ---- parts of a line
 

@@ -6,12 +6,13 @@ use mathlib.Core.Path.{_≡_, _∙_}
 use mathlib.Core.List.{List, [], _∷_, _++_}
 use lib.ListN.{take}
 use lib.Seq.{take-suc}
-use Rattle.algorithm.specs.Table.{nth, mark}
+use Rattle.words.specs.Lists.{nth}
+use Rattle.algorithm.specs.Table.{mark}
 use Rattle.table.specs.Layout.{tableIn}
 use Rattle.table.specs.Slice.{Held}
-use Rattle.texts.specs.Texts.{field, fields}
-use Rattle.texts.specs.Buffer.{WroteShort}
-use Rattle.texts.proofs.FieldLaws.{one-field, more-fields}
+use Rattle.buffer.specs.Texts.{field, fields}
+use Rattle.buffer.specs.Buffer.{WroteShort}
+use Rattle.buffer.proofs.FieldLaws.{one-field, more-fields}
 
 module _ (t : List ℕ) (h : Held t) where
   abbrev marks : List ℕ

@@ -2,11 +2,13 @@
 use mathlib.Core.Path.{_≡_, refl}
 use lib.Count.{ones}
 use Rattle.members.specs.Members.{mask}
-use Rattle.algorithm.specs.Table.{nth, replace, every, trimmed, broken}
+use Rattle.words.specs.Lists.{nth, replace, every}
+use Rattle.algorithm.specs.Table.{trimmed, broken}
 use Rattle.algorithm.specs.Actions.{votersFrom, someMarked, holdsMarked}
-use Rattle.algorithm.specs.Refusals.{refusals, first}
+use Rattle.algorithm.specs.Refusals.{refusals}
+use Rattle.words.specs.Refusal.{first}
 use Rattle.algorithm.specs.Run.{after, step, pieces, play}
-use Rattle.texts.specs.Texts.{digits, decimal, field, fields}
+use Rattle.buffer.specs.Texts.{digits, decimal, field, fields}
 use Rattle.report.specs.Lines.{reply, repliedLine, letter, shownRow, marksLine}
 use Rattle.report.specs.Report.{numbered, tableLines, cutLines, playedLines}
 use Rattle.report.specs.Case.{given, expected}

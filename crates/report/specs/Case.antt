@@ -4,7 +4,7 @@ use Prim.Native.String.{String}
 use mathlib.Core.List.{List, [], _∷_, _++_, map}
 use Rattle.algorithm.specs.Table.{fresh}
 use Rattle.algorithm.specs.Cases.{actionBytes}
-use Rattle.texts.specs.Texts.{text}
+use Rattle.buffer.specs.Texts.{text}
 use Rattle.report.specs.Report.{playedLines}
 
 -- the case's nine actions: kind, i, j and the set of each

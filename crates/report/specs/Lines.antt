@@ -6,7 +6,7 @@ use lib.Dec.{eqb}
 use Rattle.algorithm.specs.Table.{Server, trimmed}
 use Rattle.table.specs.Slice.{seen}
 use Rattle.table.specs.declared.rows.Row.{Row}
-use Rattle.texts.specs.Texts.{text, decimal, field, fields}
+use Rattle.buffer.specs.Texts.{text, decimal, field, fields}
 
 -- ---- lines on actions
 

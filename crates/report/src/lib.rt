@@ -6,17 +6,17 @@ ghost use lib.ListN.{length};
 ghost use Rattle.table.specs.Layout.{tableIn};
 ghost use Rattle.table.specs.Slice.{Held};
 ghost use Rattle.report.specs.Lines.{repliedLine, cutLine, badSiteLine, tooLongLine, shownRow, marksLine};
-ghost use Rattle.texts.specs.Buffer.{WroteShort};
+ghost use Rattle.buffer.specs.Buffer.{WroteShort};
 use crate::parts::put_figures;
 use crate::parts::put_head;
 use crate::parts::put_marks;
 use crate::parts::put_reply;
-use marks::marked;
+use buffer::put_byte;
+use buffer::put_decimal;
+use buffer::put_field;
+use buffer::put_word;
+use table::marks::marked;
 use table::rows::Row;
-use texts::put_byte;
-use texts::put_decimal;
-use texts::put_field;
-use texts::put_word;
 
 // The longest input of the programs, and the most pieces of 8 bytes that such an input has.
 pub const MOST: usize = 65536;

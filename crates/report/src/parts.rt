@@ -5,15 +5,15 @@ ghost use lib.ListN.{length, take};
 ghost use Rattle.algorithm.specs.Table.{positions};
 ghost use Rattle.table.specs.Layout.{tableIn};
 ghost use Rattle.table.specs.Slice.{Held};
-ghost use Rattle.texts.specs.Texts.{text, field, fields};
+ghost use Rattle.buffer.specs.Texts.{text, field, fields};
 ghost use Rattle.report.specs.Lines.{reply, letter, figures};
-ghost use Rattle.texts.specs.Buffer.{WroteShort};
+ghost use Rattle.buffer.specs.Buffer.{WroteShort};
 use algorithm::PRIMARY;
 use algorithm::Position;
+use buffer::put_field;
+use buffer::put_word;
 use table::rows::Row;
 use table::rows::mark_of;
-use texts::put_field;
-use texts::put_word;
 
 pub(crate) fn put_reply(buffer: &mut [u8], at: usize, r: u8) -> usize
     requires { ⌜ at + 19 ≤ length (now buffer) ⌝ }

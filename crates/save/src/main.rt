@@ -1,10 +1,10 @@
 // Plays a plan as rehearse does, and writes the image of the table that is left to standard output: a plan appended to it goes on next day. An
 // input that is not played is told on standard error, in rehearse's words.
 use engine::run;
-use image::read;
 use libc::STDERR_FILENO;
 use libc::STDIN_FILENO;
 use libc::STDOUT_FILENO;
+use reader::read;
 use report::MOST;
 use report::PIECES;
 use report::bad_site_line;

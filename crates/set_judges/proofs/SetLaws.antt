@@ -2,7 +2,7 @@
 use Prim.Native.Nat.{ℕ, _≤_}
 use native.Mathlib.Omega.{arith}
 use mathlib.Core.Path.{_≡_}
-use mathlib.Core.Bool.{Bool, false, not, _&&_, _||_}
+use mathlib.Core.Bool.{Bool, false, not, _||_, _&&_}
 use mathlib.Core.List.{[], _∷_}
 use lib.Dec.{eqb, ltb}
 use lib.ListN.{length}
@@ -11,7 +11,7 @@ use Rattle.members.specs.Members.{oneApart, majority, passing, allPass}
 use Rattle.algorithm.specs.Table.{Log, Table, count, server, mark}
 use Rattle.algorithm.specs.Comparisons.{last}
 use Rattle.algorithm.specs.Actions.{supportsAt}
-use Rattle.form.proofs.RefusalLaws.{judging}
+use Rattle.words.proofs.RefusalLaws.{judging}
 
 -- some member of q passes
 pub some-told : (x q k : ℕ) → x ≡ bitAnd q k → ltb 0 x ≡ ltb 0 (bitAnd q k)

@@ -4,15 +4,16 @@ use native.Mathlib.Omega.{arith}
 use mathlib.Core.Path.{_≡_, ap, sym, subst, _∙_}
 use mathlib.Core.List.{List, [], _∷_, _++_}
 use lib.ListN.{length, getD, set, length-set}
-use Rattle.members.proofs.Tests.{Passes}
-use Rattle.algorithm.specs.Table.{nth, replace, Server, Table, count, absent, server, withServer, changed}
+use Rattle.words.proofs.Tests.{Passes}
+use Rattle.words.specs.Lists.{nth, replace}
+use Rattle.algorithm.specs.Table.{Server, Table, count, absent, server, withServer, changed}
 use Rattle.algorithm.specs.Refusals.{known}
-use Rattle.algorithm.proofs.Lists.{length-replace}
+use Rattle.words.proofs.Lists.{length-replace, replace-nth, nth-replaced, replace-replace}
 use Rattle.algorithm.proofs.Seen.{known-range}
 use Rattle.words.specs.Words.{words, Put}
 use Rattle.table.specs.Layout.{tableBytes, row, layout, tableOf, tableIn}
 use Rattle.table.specs.Slice.{Roomy, AllRoomy, Holds, Held, Became, Within}
-use Rattle.table.proofs.ListLaws.{replace-nth, nth-replaced, replace-replace, get-mid, set-mid}
+use Rattle.table.proofs.ListLaws.{get-mid, set-mid}
 use Rattle.table.proofs.LayoutLaws.{Framed, server-in, table-back}
 
 -- ---- the table in a slice

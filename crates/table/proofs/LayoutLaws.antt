@@ -5,7 +5,8 @@ use mathlib.Core.Path.{_≡_, refl, ap, sym, _∙_}
 use mathlib.Core.List.{List, [], _∷_, _++_, append-assoc}
 use lib.ListN.{length, set, take, drop, replicate, length-set, length-append, length-replicate, length-map, replicate-append-replicate}
 use lib.Seq.{drop-at, take-at, take-append-seam}
-use Rattle.algorithm.specs.Table.{replace, Entry, Log, entries, Server, Table, count, withServer}
+use Rattle.words.specs.Lists.{replace}
+use Rattle.algorithm.specs.Table.{Entry, Log, entries, Server, Table, count, withServer}
 use Rattle.table.specs.Layout.{padded, terms, row, head, rows, layout, serverOf, serversOf, tableOf}
 use Rattle.table.specs.Slice.{AllRoomy, Shaped}
 

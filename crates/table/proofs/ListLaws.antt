@@ -1,30 +1,10 @@
 -- Laws of lists: counted from 1, as the table's are, and with a part in the middle. Assumes nothing.
-use Prim.Native.Nat.{ℕ, zero, suc, _+_, _≤_, _<_}
+use Prim.Native.Nat.{ℕ, zero, suc, _+_, _<_}
 use native.Mathlib.Nat.{zero-add, suc-add}
-use mathlib.Core.Path.{_≡_, refl, ap, _∙_}
+use mathlib.Core.Path.{_≡_, ap, _∙_}
 use mathlib.Core.List.{List, [], _∷_, _++_}
 use lib.ListN.{length, getD, set, List·getD-append}
-use lib.Seq.{getD-append-add, set-append-left, set-getD, set-set}
-use Rattle.algorithm.specs.Table.{nth, replace}
-use Rattle.algorithm.proofs.Choice.{put-same}
-use Rattle.algorithm.proofs.Lists.{nth-replace}
-
--- ---- counted from 1
-
-module _ {A : Type 0} where
-  -- putting back the element that is there changes nothing
-  pub replace-nth : (l : List A) (i : ℕ) (d : A) → replace l i (nth l i d) ≡ l
-  unfolding replace nth
-  replace-nth l zero d = refl
-  replace-nth l (suc k) d = set-getD l k d
-
-  pub nth-replaced : (l : List A) (i : ℕ) (a d : A) → 1 ≤ i → i ≤ length l → nth (replace l i a) i d ≡ a
-  nth-replaced l i a d h k = nth-replace l i a d h k i ∙ put-same (λ m. nth l m d) i a
-
-  pub replace-replace : (l : List A) (i : ℕ) (a b : A) → replace (replace l i a) i b ≡ replace l i b
-  unfolding replace
-  replace-replace l zero a b = refl
-  replace-replace l (suc j) a b = set-set l j a b
+use lib.Seq.{getD-append-add, set-append-left}
 
 -- ---- a part in the middle, at a place
 

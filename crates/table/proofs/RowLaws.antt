@@ -7,9 +7,10 @@ use mathlib.Core.Path.{_≡_, refl, ap, sym, _∙_}
 use mathlib.Core.List.{List, [], _∷_, _++_}
 use lib.ListN.{length, getD, set, take, length-append, length-take, List·getD-map}
 use lib.Seq.{length-take-le}
-use Rattle.algorithm.specs.Table.{nth, replace, Entry, Log, Server, Table, count, server, termAt, mark, changed, withMark, withRole, withTerm, withConfig, withEntry, withoutLast}
+use Rattle.words.specs.Lists.{nth, replace}
+use Rattle.algorithm.specs.Table.{Entry, Log, Server, Table, count, server, termAt, mark, changed, withMark, withRole, withTerm, withConfig, withEntry, withoutLast}
 use Rattle.algorithm.specs.Comparisons.{last}
-use Rattle.algorithm.proofs.Lists.{length-replace}
+use Rattle.words.proofs.Lists.{length-replace}
 use Rattle.words.specs.Words.{words, Put}
 use Rattle.table.specs.Layout.{padded, terms, row, head, layout, tableIn}
 use Rattle.table.specs.Slice.{Holds, Held, Became, Within, seen}

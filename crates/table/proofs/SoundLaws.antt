@@ -2,16 +2,17 @@
 use Prim.Native.Nat.{ℕ, zero, suc, _^_, _≤_, _<_}
 use native.Mathlib.Omega.{arith}
 use mathlib.Core.Path.{_≡_, refl, ap, subst}
-use mathlib.Core.Bool.{Bool, true, false, _&&_, _||_}
+use mathlib.Core.Bool.{Bool, true, false, _||_, _&&_}
 use mathlib.Core.Logic.{⊎-elim}
 use mathlib.Core.List.{List, [], _∷_}
 use lib.Dec.{leb, ltb, leb·zero}
 use lib.ListN.{length, replicate}
 use lib.Pow.{pow-mono}
 use Rattle.members.specs.Members.{within}
-use Rattle.members.proofs.Tests.{Passes, both, less}
-use Rattle.algorithm.specs.Table.{every, between, Log, Server, Table, count, primary, secondary, withLog, ceiling, soundConfig, soundEntry, soundServer}
-use Rattle.algorithm.proofs.Lists.{every-cons}
+use Rattle.words.proofs.Tests.{Passes, both, less}
+use Rattle.words.specs.Lists.{every, between}
+use Rattle.algorithm.specs.Table.{Log, Server, Table, count, primary, secondary, withLog, ceiling, soundConfig, soundEntry, soundServer}
+use Rattle.words.proofs.Lists.{every-cons}
 use Rattle.algorithm.proofs.Sound.{SoundServer, SoundTable, server-sound}
 use Rattle.words.proofs.WordLaws.{FourBytes, words-append, words-zeros, words-between}
 use Rattle.table.specs.Layout.{padded, terms, row, head, rows, layout}
@@ -53,7 +54,7 @@ words-padded (suc k) [] h = (omega arith, words-padded k [] tt)
 words-padded (suc k) (x ∷ l) h = (h .0, words-padded k l (h .1))
 
 pub words-log : (l : Log) → Passes (every soundEntry l) → FourBytes (terms l)
-words-log l h = words-between 1 (terms l) (subst Passes (terms-sound l) h)
+words-log l h = words-between 1 ceiling (omega arith) (terms l) (subst Passes (terms-sound l) h)
 
 module _ {n : ℕ} (few : n ≤ 16) where
   small : (m : ℕ) → Passes (within m n) → m < 65536
@@ -97,7 +98,7 @@ sound-shaped {t} s = record { few = s .few; roomy = all-roomy (s .few) (t .serve
 pub words-layout : {t : Table} → SoundTable t → FourBytes (layout t)
 unfolding layout
 words-layout {t} s =
-    let marks = words-between 0 (t .marks) (subst Passes (marks-sound (t .marks)) (s .marks)) in
+    let marks = words-between 0 ceiling (omega arith) (t .marks) (subst Passes (marks-sound (t .marks)) (s .marks)) in
     words-append (head (count t) (t .marks)) (rows 16 (t .servers))
     (omega (arith, s .few), (omega arith, (omega arith, (omega arith, (omega arith, (omega arith, words-padded 64 (t .marks) marks))))))
     (words-rows (s .few) 16 (t .servers) (s .servers))

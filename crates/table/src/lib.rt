@@ -1,4 +1,6 @@
 // A table in a lent slice of 4,760 bytes, worked on in place: 17 rows of 70 words (specs/Layout.antt).
+pub mod figures;
+pub mod marks;
 pub mod rows;
 
 // The length of a table's slice.

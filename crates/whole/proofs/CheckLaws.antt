@@ -2,14 +2,14 @@
 use Prim.Native.Nat.{ℕ, suc, _+_, _-_, _*_, _≤_, _<_}
 use native.Mathlib.Omega.{arith}
 use mathlib.Core.Path.{_≡_, ap, sym, _∙_}
-use mathlib.Core.Bool.{Bool, true, false, _&&_, and-true, and-assoc}
+use mathlib.Core.Bool.{Bool, true, false, and-true, and-assoc, _&&_}
 use mathlib.Core.List.{List, []}
 use lib.ListN.{getD, drop}
 use lib.Seq.{getD-drop, drop-drop}
 use borrow.Author.Tests.{le-leb, lt-leb}
-use Rattle.algorithm.specs.Table.{every, between, withLog, ceiling, soundServer}
-use Rattle.figures.specs.Figures.{figured}
-use Rattle.words.specs.Words.{part}
+use Rattle.words.specs.Lists.{every, between, part}
+use Rattle.algorithm.specs.Table.{withLog, ceiling, soundServer}
+use Rattle.table.specs.Figures.{figured}
 use Rattle.table.specs.Layout.{serverOf}
 use Rattle.whole.specs.Check.{soundRow, soundRows, soundWords}
 

@@ -6,11 +6,10 @@ use mathlib.Core.List.{List, [], _∷_}
 use lib.Dec.{eqb}
 use lib.ListN.{length}
 use borrow.Author.Tests.{not-true, eq-eqb}
-use Rattle.members.proofs.Tests.{Passes, both, together, equal, is-equal}
+use Rattle.words.proofs.Tests.{Passes, both, together, equal, is-equal, is-true}
 use Rattle.algorithm.specs.Table.{Table, broken}
 use Rattle.table.specs.Layout.{tableBytes, stored, tableIn, same, whole}
 use Rattle.table.specs.Slice.{Holds, Held}
-use Rattle.table.proofs.BoolLaws.{is-true}
 use Rattle.table.proofs.StoredLaws.{stored-length, stored-holds, stored-table}
 
 same-equal : (l m : List ℕ) → Passes (same l m) → l ≡ m

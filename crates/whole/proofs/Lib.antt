@@ -1,5 +1,6 @@
--- The laws of whole slices.
+-- The laws of whole slices, and of fresh ones.
 pub mod CheckLaws
 pub mod WholeLaws
 pub mod Determined
-pub mod AnswerLaws
+pub mod WordsLaws
+pub mod FreshLaws

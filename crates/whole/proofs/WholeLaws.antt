@@ -1,19 +1,19 @@
 -- The check asks of the words what makes a slice whole: that they are the layout of the table in them, and that this table breaks no rule.
 -- Assumes nothing.
+use mathlib.Core.Bool.{_&&_}
 use Prim.Native.Nat.{ℕ, zero, suc, _+_, _-_, _*_, _≤_}
 use native.Mathlib.Nat.{add-comm}
 use native.Mathlib.Omega.{arith}
 use mathlib.Core.Path.{_≡_, refl, ap, ap₂, sym, subst, _∙_}
-use mathlib.Core.Bool.{_&&_}
 use mathlib.Core.List.{List, [], _∷_, _++_}
 use lib.Dec.{leb}
 use lib.ListN.{length, getD, take, drop, replicate, length-drop, length-map, take-append-drop}
 use lib.Seq.{drop-drop, drop-at, length-take-le, take-add, take-suc, take-all}
-use Rattle.members.proofs.Tests.{Passes, both, together, at-most, is-at-most}
-use Rattle.algorithm.specs.Table.{every, between, entries, Server, Table, count, ceiling, soundServer}
-use Rattle.algorithm.proofs.Lists.{every-cons, every-replicate}
+use Rattle.words.proofs.Tests.{Passes, both, together, at-most, is-at-most}
+use Rattle.words.specs.Lists.{every, between, part}
+use Rattle.algorithm.specs.Table.{entries, Server, Table, count, ceiling, soundServer}
+use Rattle.words.proofs.Lists.{every-cons, every-replicate}
 use Rattle.algorithm.proofs.Sound.{SoundTable}
-use Rattle.words.specs.Words.{part}
 use Rattle.table.specs.Layout.{padded, terms, row, head, rows, layout, serverOf, serversOf, tableOf}
 use Rattle.table.proofs.LayoutLaws.{length-row, length-head, length-layout, rows-none, padded-is, log-terms, log-beyond, server-back, marks-back}
 use Rattle.table.proofs.SoundLaws.{server-parts, terms-sound, marks-sound}

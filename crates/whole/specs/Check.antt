@@ -4,8 +4,8 @@ use mathlib.Core.Bool.{Bool, true, _&&_}
 use mathlib.Core.List.{List, []}
 use lib.Dec.{leb}
 use lib.ListN.{getD, drop}
-use Rattle.algorithm.specs.Table.{every, between, withLog, ceiling, positions, mostServers, soundServer}
-use Rattle.words.specs.Words.{part}
+use Rattle.words.specs.Lists.{every, between, part}
+use Rattle.algorithm.specs.Table.{withLog, ceiling, positions, mostServers, soundServer}
 use Rattle.table.specs.Layout.{rowWords, serverOf}
 
 -- d begins with the row of a server of a table of n: its five figures, its log's length, and its entries, 0 beyond the length

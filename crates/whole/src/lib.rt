@@ -10,8 +10,8 @@ ghost use Rattle.whole.specs.Check.{soundRow, soundRows, soundWords};
 use algorithm::CEILING;
 use algorithm::Term;
 use algorithm::Version;
-use figures::figures_sound;
 use table::BYTES;
+use table::figures::figures_sound;
 use table::rows::CONFIG;
 use table::rows::ENTRIES;
 use table::rows::LENGTH;
@@ -23,6 +23,8 @@ use table::rows::TERM;
 use table::rows::VERSION;
 use words::all_between;
 use words::word;
+
+pub mod fresh;
 
 // The longest log that a row has room for, and the words of the servers' 16 rows.
 const LONGEST: u32 = ENTRIES as u32;

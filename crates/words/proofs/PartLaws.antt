@@ -3,12 +3,12 @@ use Prim.Native.Nat.{ℕ, zero, suc, _+_, _*_, _≤_, _<_}
 use native.Mathlib.Numerals.{add-one}
 use native.Mathlib.Omega.{arith}
 use mathlib.Core.Path.{_≡_, refl, ap, sym, _∙_}
-use mathlib.Core.Bool.{Bool, true, _&&_, and-true, and-assoc}
+use mathlib.Core.Bool.{Bool, true, and-true, and-assoc, _&&_}
 use mathlib.Core.List.{List, [], _∷_}
 use lib.ListN.{length, getD, take, drop, length-drop}
 use lib.Seq.{getD-drop}
-use Rattle.algorithm.specs.Table.{every, between}
-use Rattle.words.specs.Words.{words, part}
+use Rattle.words.specs.Lists.{every, between, part}
+use Rattle.words.specs.Words.{words}
 use Rattle.words.proofs.WordLaws.{length-words}
 
 every-more : (p : ℕ → Bool) (l : List ℕ) (i : ℕ) → i < length l → every p (take (suc i) l) ≡ (every p (take i l) && p (getD l i 0))

@@ -6,9 +6,9 @@ use mathlib.Core.Path.{_≡_, refl, ap, sym, _∙_}
 use mathlib.Core.List.{List, [], _∷_, _++_}
 use lib.Dec.{leb}
 use lib.ListN.{length, getD, set, replicate, length-set}
-use Rattle.members.proofs.Tests.{Passes, both, at-most}
-use Rattle.algorithm.specs.Table.{every, between, ceiling}
-use Rattle.algorithm.proofs.Lists.{every-cons}
+use Rattle.words.proofs.Tests.{Passes, both, at-most}
+use Rattle.words.specs.Lists.{every, between}
+use Rattle.words.proofs.Lists.{every-cons}
 use Rattle.words.specs.Words.{wordOf, words, bytes, putWord, Put}
 
 -- four bytes further on
@@ -131,8 +131,8 @@ pub words-zeros : (k : ℕ) → FourBytes (replicate k 0)
 words-zeros zero = tt
 words-zeros (suc k) = (omega arith, words-zeros k)
 
-pub words-between : (low : ℕ) (l : List ℕ) → Passes (every (between low ceiling) l) → FourBytes l
-words-between low [] h = tt
-words-between low (x ∷ l) h =
-    let (here, rest) = every-cons (between low ceiling) x l h in
-    (omega (arith, at-most {a = x} {b = ceiling} (both {a = leb low x} here .1)), words-between low l rest)
+pub words-between : (low high : ℕ) → high < 4294967296 → (l : List ℕ) → Passes (every (between low high) l) → FourBytes l
+words-between low high small [] h = tt
+words-between low high small (x ∷ l) h =
+    let (here, rest) = every-cons (between low high) x l h in
+    (omega (arith, at-most {a = x} {b = high} (both {a = leb low x} here .1)), words-between low high small l rest)

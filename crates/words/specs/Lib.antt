@@ -1,2 +1,4 @@
--- Words of a slice of bytes.
+-- What every other crate stands on: lists, numbers in bytes, refusals in order.
+pub mod Lists
 pub mod Words
+pub mod Refusal

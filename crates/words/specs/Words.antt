@@ -1,8 +1,24 @@
--- Numbers of four bytes, low byte first. Assumes nothing.
+-- Numbers of two and of four bytes, low byte first. Assumes nothing.
 use Prim.Native.Nat.{ℕ, _+_, _*_, _/_, _%_}
 use mathlib.Core.Path.{_≡_}
 use mathlib.Core.List.{List, [], _∷_}
-use lib.ListN.{length, take, drop, set}
+use lib.ListN.{length, getD, set}
+
+-- ---- two bytes
+
+-- the number of two bytes
+abbrev pub pairOf : ℕ → ℕ → ℕ
+pairOf low high = low + 256 * high
+
+-- the two bytes of a number
+abbrev pub half : ℕ → List ℕ
+half v = v % 256 ∷ v / 256 % 256 ∷ []
+
+-- the number of two bytes at a place
+abbrev pub halfAt : List ℕ → ℕ → ℕ
+halfAt b k = pairOf (getD b k 0) (getD b (k + 1) 0)
+
+-- ---- four bytes
 
 -- the number of four bytes
 abbrev pub wordOf : ℕ → ℕ → ℕ → ℕ → ℕ
@@ -31,7 +47,3 @@ pub record Put (b b' : List ℕ) (k v : ℕ) : Type 0 where
   pub bytes : b' ≡ putWord b k v
   pub sized : length b' ≡ length b
   pub word : words b' ≡ set (words b) k v
-
--- n numbers of a list, from place k on, the first place being 0
-abbrev pub part : List ℕ → ℕ → ℕ → List ℕ
-part c k n = take n (drop k c)

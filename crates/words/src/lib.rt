@@ -1,9 +1,31 @@
-// Words of a slice: numbers of four bytes, the low byte first.
+// Numbers in a slice, of two bytes and of four (words), the low byte first.
 ghost use mathlib.Core.Path.{_≡_};
-ghost use Prim.Native.Nat.{_+_, _*_, _≤_};
+ghost use Prim.Native.Nat.{_+_, _*_, _≤_, _<_};
 ghost use lib.ListN.{length, getD};
-ghost use Rattle.algorithm.specs.Table.{every, between};
-ghost use Rattle.words.specs.Words.{wordOf, words, Put, part};
+ghost use Rattle.words.specs.Lists.{every, between, part};
+ghost use Rattle.words.specs.Words.{pairOf, halfAt, wordOf, words, Put};
+
+// A number of two bytes, the low one first.
+pub fn pair(low: u8, high: u8) -> u16
+    ensures { λ r. ⌜ r ≡ pairOf low high ⌝ }
+{
+    low as u16 + 256 * (high as u16)
+}
+
+// The number of two bytes at k.
+pub fn half(b: &[u8], k: usize) -> u16
+    requires { ⌜ k + 2 ≤ length (now b) ⌝ }
+    ensures { λ r. ⌜ r ≡ halfAt (now (b .entry)) k ⌝ }
+{
+    pair(b[k], b[k + 1])
+}
+
+// A cast stands on a parameter: a byte that comes as one is known to be a byte, and an element of a slice is not.
+pub fn wide(x: u8) -> u32
+    ensures { λ r. ⌜ (r ≡ x) × (r < 256) ⌝ }
+{
+    x as u32
+}
 
 fn joined(a: u8, b: u8, c: u8, d: u8) -> u32
     ensures { λ r. ⌜ r ≡ wordOf a b c d ⌝ }

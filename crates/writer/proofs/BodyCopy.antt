@@ -8,15 +8,15 @@ use mathlib.Core.Logic.{⊎-elim}
 use lib.Dec.{leb, eqb}
 use lib.ListN.{length, getD, take, drop, replicate}
 use lib.Seq.{getD-drop}
-use Rattle.members.proofs.Tests.{Passes, both, either, equal, at-most}
-use Rattle.algorithm.specs.Table.{nth, every, between, ceiling, kept, trimmed}
-use Rattle.algorithm.specs.Actions.{half}
-use Rattle.words.specs.Words.{words, bytes}
+use Rattle.words.proofs.Tests.{Passes, both, either, equal, at-most}
+use Rattle.words.specs.Lists.{nth, every, between}
+use Rattle.algorithm.specs.Table.{ceiling, kept, trimmed}
+use Rattle.words.specs.Words.{half, words, bytes}
 use Rattle.words.proofs.WordLaws.{length-words, bytes-words}
 use Rattle.table.specs.Layout.{padded}
 use Rattle.table.proofs.LayoutLaws.{padded-is}
 use Rattle.whole.proofs.WholeLaws.{terms-entries}
-use Rattle.bodies.specs.Bodies.{marksIn, serverIn, soundMarksBody}
+use Rattle.image.specs.Bodies.{marksIn, serverIn, soundMarksBody}
 use Rattle.image.specs.Image.{marksBody, serverBody}
 
 -- ---- lists of bytes

@@ -9,18 +9,18 @@ use mathlib.Core.List.{List, [], _∷_, _++_, append-assoc, append-nil, flatten}
 use lib.Dec.{T, leb, eqb, eqb→eq}
 use lib.ListN.{length, getD, take, drop, length-append, length-drop, length-map, List·getD-append, List·getD-map}
 use lib.Seq.{take-all, take-add, getD-drop, getD-at, length-take-le}
-use Rattle.members.proofs.Tests.{Passes, both, refuted, equal}
-use Rattle.algorithm.specs.Table.{absent, every}
-use Rattle.algorithm.proofs.Refused.{first-later}
-use Rattle.algorithm.specs.Actions.{half}
-use Rattle.table.proofs.BoolLaws.{three}
-use Rattle.contents.specs.Contents.{firstBody, opened, countIn, offset, size, stop, start, fixed, mayHave, laid, laidOut}
-use Rattle.contents.proofs.BelowLaws.{all-below}
-use Rattle.bodies.specs.Bodies.{body, serverIn, soundAt, soundBodies}
+use Rattle.words.proofs.Tests.{Passes, both, refuted, equal, three}
+use Rattle.algorithm.specs.Table.{absent}
+use Rattle.words.specs.Lists.{every}
+use Rattle.words.proofs.RefusalLaws.{first-later}
+use Rattle.words.specs.Words.{half}
+use Rattle.image.specs.Contents.{firstBody, opened, countIn, offset, size, stop, start, fixed, mayHave, laid, laidOut}
+use Rattle.words.proofs.BelowLaws.{all-below}
+use Rattle.image.specs.Bodies.{body, serverIn, soundAt, soundBodies}
 use Rattle.image.specs.Image.{opening, serverBody, bodies, contents, image}
-use Rattle.image.specs.Reader.{readRefusals, readReply, serversTo, readTable, readEnd}
-use Rattle.image.proofs.FillLaws.{length-servers}
-use Rattle.image.proofs.ReplyLaws.{Readable, readable}
+use Rattle.reader.specs.Reader.{readRefusals, readReply, serversTo, readTable, readEnd}
+use Rattle.reader.proofs.FillLaws.{length-servers}
+use Rattle.reader.proofs.ReplyLaws.{Readable, readable}
 use Rattle.writer.proofs.PlaceLaws.{flatten-more, contents-more}
 use Rattle.writer.proofs.BodyCopy.{Bytes, part-bytes, half-of, marks-copy, server-copy}
 

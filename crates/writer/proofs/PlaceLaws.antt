@@ -8,14 +8,14 @@ use mathlib.Core.List.{List, [], _∷_, _++_, append-assoc, append-nil, flatten}
 use lib.ListN.{length, getD, take, drop, length-append, length-drop, length-map}
 use lib.Seq.{take-all}
 use Rattle.algorithm.specs.Table.{Table, absent, count}
-use Rattle.algorithm.specs.Actions.{half}
+use Rattle.words.specs.Words.{half}
 use Rattle.table.specs.Layout.{tableIn}
-use Rattle.texts.specs.Buffer.{Wrote}
-use Rattle.texts.proofs.WroteLaws.{wrote-none, sized, then, part, part-wrote}
-use Rattle.contents.specs.Contents.{firstBody}
+use Rattle.buffer.specs.Buffer.{Wrote}
+use Rattle.buffer.proofs.WroteLaws.{wrote-none, sized, then, part, part-wrote}
+use Rattle.image.specs.Contents.{firstBody}
 use Rattle.image.specs.Image.{opening, serverBody, bodies, contents, image}
 use Rattle.image.proofs.ImageLaws.{length-contents}
-use Rattle.bodywriters.specs.Written.{bodyOf, Savable}
+use Rattle.writer.specs.Written.{bodyOf, Savable}
 
 -- ---- one more of some bodies
 

@@ -5,8 +5,7 @@ use mathlib.Core.Path.{_≡_}
 use mathlib.Core.List.{List, [], _∷_, _++_}
 use lib.Dec.{ltb}
 use lib.ListN.{length, drop}
-use Rattle.algorithm.specs.Actions.{Refusal, refuse}
-use Rattle.algorithm.specs.Refusals.{first, unlessRefused}
+use Rattle.words.specs.Refusal.{Refusal, refuse, first, unlessRefused}
 use Rattle.table.specs.Layout.{tableIn, whole}
 use Rattle.image.specs.Image.{image}
 

@@ -6,18 +6,20 @@ ghost use lib.ListN.{length};
 ghost use mathlib.Core.List.{flatten};
 ghost use Rattle.algorithm.specs.Table.{count};
 ghost use Rattle.table.specs.Layout.{tableIn};
-ghost use Rattle.texts.specs.Buffer.{Wrote};
-ghost use Rattle.contents.specs.Contents.{firstBody};
+ghost use Rattle.buffer.specs.Buffer.{Wrote};
+ghost use Rattle.image.specs.Contents.{firstBody};
 ghost use Rattle.image.specs.Image.{opening, bodies, contents};
-ghost use Rattle.bodywriters.specs.Written.{Savable};
+ghost use Rattle.writer.specs.Written.{Savable};
 ghost use Rattle.writer.specs.Writer.{imageOf, WriteAnswer};
-use bodywriters::put_body;
-use bodywriters::put_half;
-use bodywriters::size_of;
+use crate::bodies::put_body;
+use crate::bodies::put_half;
+use crate::bodies::size_of;
+use buffer::put_byte;
+use buffer::put_word;
 use table::rows::count_of;
-use texts::put_byte;
-use texts::put_word;
 use whole::is_whole;
+
+mod bodies;
 
 // The length of the image.
 fn image_length(t: &[u8]) -> usize

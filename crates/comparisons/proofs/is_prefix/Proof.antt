@@ -2,7 +2,8 @@
 -- Assumes nothing.
 use Prim.Native.Nat.{_-_, _≤_}
 use borrow.Author.Needs.{needs}
-use Rattle.algorithm.specs.Table.{nth, server}
+use Rattle.words.specs.Lists.{nth}
+use Rattle.algorithm.specs.Table.{server}
 use Rattle.table.specs.Layout.{tableIn}
 use Rattle.comparisons.proofs.LogLaws.{PrefixFrom, prefix-long, prefix-none, prefix-next, prefix-all}
 use Rattle.comparisons.proofs.is_prefix.Statement.{statement}

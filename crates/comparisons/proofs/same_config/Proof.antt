@@ -1,6 +1,6 @@
 -- `comparisons::same_config` meets its contract. Assumes nothing.
 use borrow.Author.Needs.{needs}
-use Rattle.members.proofs.Tests.{and-told}
+use Rattle.words.proofs.Tests.{and-told}
 use Rattle.comparisons.proofs.FigureLaws.{equal-told}
 use Rattle.comparisons.proofs.same_config.Statement.{statement}
 use Rattle.comparisons.proofs.same_config.Tie as tie

@@ -1,6 +1,6 @@
 -- `form::judge_form` meets its contract. Assumes nothing.
 use borrow.Author.Needs.{needs}
-use Rattle.form.proofs.RefusalLaws.{judging}
+use Rattle.words.proofs.RefusalLaws.{judging}
 use Rattle.form.proofs.FormLaws.{known-length, known-most}
 use Rattle.form.proofs.judge_form.Statement.{statement}
 use Rattle.form.proofs.judge_form.Tie as tie

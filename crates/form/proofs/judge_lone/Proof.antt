@@ -1,6 +1,6 @@
 -- `form::judge_lone` meets its contract. Assumes nothing.
 use borrow.Author.Needs.{needs}
-use Rattle.form.proofs.RefusalLaws.{judging}
+use Rattle.words.proofs.RefusalLaws.{judging}
 use Rattle.form.proofs.judge_lone.Statement.{statement}
 use Rattle.form.proofs.judge_lone.Tie as tie
 

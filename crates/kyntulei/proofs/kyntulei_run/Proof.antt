@@ -1,7 +1,7 @@
 -- `kyntulei::kyntulei_run` meets its contract. Assumes nothing.
 use mathlib.Core.Path.{refl}
 use borrow.Author.Needs.{needs}
-use Rattle.kyntulei.proofs.AnswerLaws.{ready, run-answer, run-broken}
+use Rattle.kyntulei.proofs.CallLaws.{ready, run-answer, run-broken}
 use Rattle.kyntulei.proofs.kyntulei_run.Statement.{statement}
 use Rattle.kyntulei.proofs.kyntulei_run.Tie as tie
 

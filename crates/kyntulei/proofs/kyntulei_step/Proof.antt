@@ -1,6 +1,6 @@
 -- `kyntulei::kyntulei_step` meets its contract. Assumes nothing.
 use borrow.Author.Needs.{needs}
-use Rattle.kyntulei.proofs.AnswerLaws.{ready, step-answer, step-broken}
+use Rattle.kyntulei.proofs.CallLaws.{ready, step-answer, step-broken}
 use Rattle.kyntulei.proofs.kyntulei_step.Statement.{statement}
 use Rattle.kyntulei.proofs.kyntulei_step.Tie as tie
 

@@ -1,6 +1,6 @@
 -- `pair_judges::judge_roll_back` meets its contract. Assumes nothing.
 use borrow.Author.Needs.{needs}
-use Rattle.form.proofs.RefusalLaws.{judging}
+use Rattle.words.proofs.RefusalLaws.{judging}
 use Rattle.pair_judges.proofs.judge_roll_back.Statement.{statement}
 use Rattle.pair_judges.proofs.judge_roll_back.Tie as tie
 

@@ -1,6 +1,6 @@
 -- `pair_judges::judge_write` meets its contract. Assumes nothing.
 use borrow.Author.Needs.{needs}
-use Rattle.form.proofs.RefusalLaws.{judging}
+use Rattle.words.proofs.RefusalLaws.{judging}
 use Rattle.pair_judges.proofs.judge_write.Statement.{statement}
 use Rattle.pair_judges.proofs.judge_write.Tie as tie
 

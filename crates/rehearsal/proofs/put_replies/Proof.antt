@@ -4,7 +4,7 @@ use mathlib.Core.List.{flatten}
 use mathlib.Core.Path.{_≡_}
 use borrow.Author.Needs.{needs}
 use lib.ListN.{length, take}
-use Rattle.texts.specs.Buffer.{WroteShort}
+use Rattle.buffer.specs.Buffer.{WroteShort}
 use Rattle.report.specs.Lines.{repliedLine}
 use Rattle.report.specs.Report.{repliedLines}
 use Rattle.rehearsal.proofs.OrderLaws.{numbered-none, replies-more, replies-all}

@@ -5,7 +5,7 @@ use mathlib.Core.Path.{_≡_}
 use borrow.Author.Needs.{needs}
 use lib.ListN.{length, take}
 use Rattle.table.specs.Layout.{tableIn}
-use Rattle.texts.specs.Buffer.{WroteShort}
+use Rattle.buffer.specs.Buffer.{WroteShort}
 use Rattle.report.specs.Lines.{rowLine}
 use Rattle.report.specs.Report.{rowLines}
 use Rattle.rehearsal.proofs.OrderLaws.{numbered-none, rows-more, rows-all}

@@ -1,6 +1,6 @@
 -- `rehearsal::rehearse` meets its contract. Assumes nothing.
 use borrow.Author.Needs.{needs}
-use Rattle.image.proofs.Theorems.{read-whole, read-within}
+use Rattle.reader.proofs.ReadTheorems.{read-whole, read-within}
 use Rattle.engine.proofs.ReadyLaws.{whole-ready}
 use Rattle.rehearsal.proofs.InputLaws.{too-long-shown, bad-site-shown, site-shown}
 use Rattle.rehearsal.proofs.rehearse.Statement.{statement}

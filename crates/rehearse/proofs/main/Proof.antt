@@ -1,6 +1,6 @@
 -- `rehearse::main` ends, and writes what the rehearsal left in the buffer. Assumes nothing.
 use borrow.Author.Needs.{needs}
-use Rattle.texts.proofs.WroteLaws.{wrote-within, wrote-lent}
+use Rattle.buffer.proofs.WroteLaws.{wrote-within, wrote-lent}
 use Rattle.rehearse.proofs.main.Statement.{statement}
 use Rattle.rehearse.proofs.main.Tie as tie
 

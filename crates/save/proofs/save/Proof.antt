@@ -1,6 +1,6 @@
 -- `save::save` meets its contract. Assumes nothing.
 use borrow.Author.Needs.{needs}
-use Rattle.image.proofs.Theorems.{read-whole, read-within}
+use Rattle.reader.proofs.ReadTheorems.{read-whole, read-within}
 use Rattle.engine.proofs.ReadyLaws.{whole-ready}
 use Rattle.save.proofs.save.Statement.{statement}
 use Rattle.save.proofs.save.Tie as tie

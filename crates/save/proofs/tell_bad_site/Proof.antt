@@ -1,6 +1,6 @@
 -- `save::tell_bad_site` ends, and asks of the line only what it promises. Assumes nothing.
 use borrow.Author.Needs.{needs}
-use Rattle.texts.proofs.WroteLaws.{wrote-lent}
+use Rattle.buffer.proofs.WroteLaws.{wrote-lent}
 use Rattle.save.proofs.tell_bad_site.Statement.{statement}
 use Rattle.save.proofs.tell_bad_site.Tie as tie
 

@@ -1,6 +1,6 @@
 -- `save::tell_too_long` ends, and asks of the line only what it promises. Assumes nothing.
 use borrow.Author.Needs.{needs}
-use Rattle.texts.proofs.WroteLaws.{wrote-lent}
+use Rattle.buffer.proofs.WroteLaws.{wrote-lent}
 use Rattle.save.proofs.tell_too_long.Statement.{statement}
 use Rattle.save.proofs.tell_too_long.Tie as tie
 

@@ -1,6 +1,6 @@
 -- `save::write_image` ends, and asks of the writer's answer only what it promises. Assumes nothing.
 use borrow.Author.Needs.{needs}
-use Rattle.writer.proofs.Theorems.{written-within, written-lent}
+use Rattle.writer.proofs.WriteTheorems.{written-within, written-lent}
 use Rattle.save.proofs.write_image.Statement.{statement}
 use Rattle.save.proofs.write_image.Tie as tie
 

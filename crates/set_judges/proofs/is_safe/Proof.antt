@@ -1,6 +1,6 @@
 -- `set_judges::is_safe` meets its contract. Assumes nothing.
 use borrow.Author.Needs.{needs}
-use Rattle.questions.proofs.AnswerLaws.{and-then, and-not}
+use Rattle.questions.proofs.MaskLaws.{and-then, and-not}
 use Rattle.questions.proofs.MarkLaws.{marked-any}
 use Rattle.set_judges.proofs.SetLaws.{most-told}
 use Rattle.set_judges.proofs.is_safe.Statement.{statement}

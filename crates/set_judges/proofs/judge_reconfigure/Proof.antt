@@ -1,6 +1,6 @@
 -- `set_judges::judge_reconfigure` meets its contract. Assumes nothing.
 use borrow.Author.Needs.{needs}
-use Rattle.form.proofs.RefusalLaws.{judging}
+use Rattle.words.proofs.RefusalLaws.{judging}
 use Rattle.set_judges.proofs.judge_reconfigure.Statement.{statement}
 use Rattle.set_judges.proofs.judge_reconfigure.Tie as tie
 

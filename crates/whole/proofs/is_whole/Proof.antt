@@ -1,6 +1,6 @@
 -- `whole::is_whole` meets its contract. Assumes nothing.
 use borrow.Author.Needs.{needs}
-use Rattle.whole.proofs.AnswerLaws.{other-length, no-server, too-many, answer}
+use Rattle.whole.proofs.WordsLaws.{other-length, no-server, too-many, answer}
 use Rattle.whole.proofs.is_whole.Statement.{statement}
 use Rattle.whole.proofs.is_whole.Tie as tie
 

@@ -1,6 +1,6 @@
 -- `writer::write` meets its contract. Assumes nothing.
 use borrow.Author.Needs.{needs}
-use Rattle.writer.proofs.AnswerLaws.{savable, no-table, no-room, written}
+use Rattle.writer.proofs.WriteLaws.{savable, no-table, no-room, written}
 use Rattle.writer.proofs.write.Statement.{statement}
 use Rattle.writer.proofs.write.Tie as tie
 

@@ -4,7 +4,7 @@ use mathlib.Core.Path.{_≡_}
 use borrow.Author.Needs.{needs}
 use Rattle.algorithm.specs.Table.{server}
 use Rattle.algorithm.specs.Actions.{someMarked}
-use Rattle.words.specs.Words.{part}
+use Rattle.words.specs.Lists.{part}
 use Rattle.table.specs.Layout.{tableIn}
 use Rattle.questions.proofs.MarkLaws.{marked-none, marked-next, marked-all}
 use Rattle.questions.proofs.marks.is_marked.Statement.{statement}

@@ -1,6 +1,6 @@
 -- `report::parts::put_figures` meets its contract. Assumes nothing.
 use borrow.Author.Needs.{needs}
-use Rattle.texts.proofs.FieldLaws.{six-fields}
+use Rattle.buffer.proofs.FieldLaws.{six-fields}
 use Rattle.report.proofs.parts.put_figures.Statement.{statement}
 use Rattle.report.proofs.parts.put_figures.Tie as tie
 

@@ -4,9 +4,9 @@ use mathlib.Core.Path.{_≡_}
 use borrow.Author.Needs.{needs}
 use lib.ListN.{length, take}
 use Rattle.table.specs.Layout.{tableIn}
-use Rattle.texts.specs.Texts.{fields}
-use Rattle.texts.specs.Buffer.{WroteShort}
-use Rattle.texts.proofs.FieldLaws.{no-fields}
+use Rattle.buffer.specs.Texts.{fields}
+use Rattle.buffer.specs.Buffer.{WroteShort}
+use Rattle.buffer.proofs.FieldLaws.{no-fields}
 use Rattle.report.proofs.MarkLaws.{marks-more, marks-all}
 use Rattle.report.proofs.parts.put_marks.Statement.{statement}
 use Rattle.report.proofs.parts.put_marks.Tie as tie

@@ -1,6 +1,6 @@
 -- `report::parts::put_three` meets its contract. Assumes nothing.
 use borrow.Author.Needs.{needs}
-use Rattle.texts.proofs.FieldLaws.{three-fields}
+use Rattle.buffer.proofs.FieldLaws.{three-fields}
 use Rattle.report.proofs.parts.put_three.Statement.{statement}
 use Rattle.report.proofs.parts.put_three.Tie as tie
 

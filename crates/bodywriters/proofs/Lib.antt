@@ -1,2 +1,0 @@
--- The laws of the bodies' writers.
-pub mod BodyLaws

@@ -1,2 +1,0 @@
--- The law of a server by its figures.
-pub mod FigureLaws

@@ -1,2 +1,0 @@
--- The laws of new tables.
-pub mod FillLaws

@@ -1,0 +1,88 @@
+// Whether the bodies' fields keep the rules. A body is the part of the image that its entry names: what judges it sees nothing else.
+ghost use mathlib.Core.Path.{_≡_};
+ghost use Rattle.image.specs.Bodies.{serverIn, soundMarksBody, soundServerBody, soundAt, soundBodies};
+ghost use Rattle.image.specs.Asked.{Names, Named, Sized, figuresOf};
+use crate::contents::count_of;
+use crate::contents::offset_of;
+use crate::contents::stop_of;
+use algorithm::CEILING;
+use algorithm::Term;
+use algorithm::Version;
+use table::figures::figures_sound;
+use words::all_between;
+use words::half;
+use words::wide;
+use words::word;
+
+fn marks_sound(b: &[u8]) -> bool
+    ensures { λ r. ⌜ r ≡ soundMarksBody (now (b .entry)) ⌝ }
+{
+    let n = b.len() / 4;
+    if n == 0 {
+        return true;
+    }
+    let ok = all_between(b, 0, n, 0, CEILING);
+    let last = word(b, n - 1);
+    ok & (1 <= last)
+}
+
+// A server's figures, all but its log.
+pub struct Figures {
+    pub role: u32,
+    pub term: Term,
+    pub set: u16,
+    pub version: Version,
+    pub config: Term,
+}
+
+pub fn figures_of(b: &[u8]) -> Figures
+    requires { ⌜ Sized (now b) ⌝ }
+    ensures { λ r. ⌜ r ≡ figuresOf (serverIn (now (b .entry))) ⌝ }
+{
+    Figures {
+        role: wide(b[0]),
+        term: Term(word(b, 1)),
+        set: half(b, 2),
+        version: Version(word(b, 2)),
+        config: Term(word(b, 3)),
+    }
+}
+
+fn server_sound(b: &[u8], n: u8) -> bool
+    requires { ⌜ Sized (now b) ⌝ }
+    ensures { λ r. ⌜ r ≡ soundServerBody n (now (b .entry)) ⌝ }
+{
+    let spare = b[1];
+    let f = figures_of(b);
+    let figures = figures_sound(f.role, f.term, f.set as u32, f.version, f.config, n);
+    let entries = all_between(b, 4, b.len() / 4 - 4, 1, CEILING);
+    (spare == 0) & figures & entries
+}
+
+fn body_sound(image: &[u8], e: usize) -> bool
+    requires { ⌜ Names (now image) e ⌝ }
+    ensures { λ r. ⌜ r ≡ soundAt (now (image .entry)) e ⌝ }
+{
+    let at = offset_of(image, e);
+    let stop = stop_of(image, e);
+    if 1 <= e {
+        let n = image[4];
+        return server_sound(&image[at..stop], n);
+    }
+    marks_sound(&image[at..stop])
+}
+
+// Whether the fields of every body keep the rules.
+pub fn are_sound(image: &[u8]) -> bool
+    requires { ⌜ Named (now image) ⌝ }
+    ensures { λ r. ⌜ r ≡ soundBodies (now (image .entry)) ⌝ }
+{
+    let n = count_of(image);
+    let mut ok = true;
+    let mut e: usize = 0;
+    while e <= n {
+        ok = ok & body_sound(image, e);
+        e += 1;
+    }
+    ok
+}

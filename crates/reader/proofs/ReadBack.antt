@@ -1,0 +1,198 @@
+-- An image of a table that breaks no rule is read as that table, whatever follows it. Assumes nothing.
+use Prim.Native.Nat.{ℕ, zero, suc, _+_, _*_, _%_, _≤_, _<_}
+use native.Mathlib.Omega.{arith}
+use mathlib.Core.Path.{_≡_, refl, ap, sym, subst, _∙_}
+use mathlib.Core.Bool.{Bool, false, not, _&&_}
+use mathlib.Core.List.{List, [], _∷_, _++_, append-assoc, map, flatten}
+use lib.Dec.{leb, eqb}
+use lib.ListN.{length, getD, take, length-append, length-map, List·getD-map}
+use lib.Seq.{take-suc, take-length}
+use Rattle.words.proofs.Tests.{Passes, together, is-equal, is-at-most, is-true}
+use Rattle.algorithm.specs.Table.{Server, Table, absent, count, ceiling, soundServer, broken, trimmed}
+use Rattle.words.specs.Lists.{nth, every, between}
+use Rattle.words.proofs.Lists.{every-nth}
+use Rattle.algorithm.proofs.Sound.{SoundTable, table-sound}
+use Rattle.table.specs.Slice.{AllRoomy, Shaped}
+use Rattle.words.proofs.WordLaws.{length-bytes}
+use Rattle.table.specs.Layout.{tableBytes}
+use Rattle.table.proofs.SoundLaws.{marks-sound}
+use Rattle.table.proofs.HeldLaws.{roomy-at}
+use Rattle.table.proofs.StoredLaws.{its-shape}
+use Rattle.image.specs.Contents.{firstBody, opened, counted, offset, size, stop, start, mayHave, laid, laidOut}
+use Rattle.image.specs.Image.{opening, marksBody, serverBody, bodies, contents, image}
+use Rattle.image.specs.Bodies.{body, marksIn, serverIn, soundMarksBody, soundServerBody, soundAt, soundBodies}
+use Rattle.reader.specs.Reader.{serversTo, readReply, readTable, readEnd}
+use Rattle.words.proofs.BelowLaws.{below-all}
+use Rattle.reader.proofs.ReplyLaws.{reply-0}
+use Rattle.image.proofs.ImageLaws.{place, place-last, place-most, joined, length-joined, length-contents, joined-offset, joined-size, joined-stop, joined-body}
+use Rattle.reader.proofs.BodyBack.{length-trimmed, length-body, marks-back, marks-pass, server-back, server-pass}
+
+passed : {b : Bool} → Passes b → not b ≡ false
+passed {b} h = rw (is-true b (h .yes))
+
+-- bodies have room for their places in two bytes
+servers-short : (ss : List Server) → AllRoomy ss → length (flatten (map serverBody ss)) ≤ 272 * length ss
+unfolding flatten
+servers-short [] h = omega arith
+servers-short (s ∷ ss) h =
+    omega (arith, length-append (serverBody s) (flatten (map serverBody ss)), length-body s, h .0 .short, servers-short ss (h .1))
+
+length-marks : (ms : List ℕ) → length (marksBody ms) ≤ 4 * length ms
+length-marks ms = omega (arith, length-bytes (trimmed ms), length-trimmed ms)
+
+-- f bytes, a multiple of 4, and k numbers of four bytes are a length of a body that has f bytes before its numbers
+fitting : (f j k v : ℕ) → f ≡ 4 * j → v ≡ f + 4 * k → k ≤ 64 → Passes (leb f v && leb v (f + 256) && eqb (v % 4) 0)
+fitting f j k v ef ev l =
+    together {a = leb f v && leb v (f + 256)}
+    (together {a = leb f v} (is-at-most {a = f} {b = v} (omega arith)) (is-at-most {a = v} {b = f + 256} (omega arith)))
+    (is-equal {a = v % 4} {b = 0} (omega arith))
+
+module _ (t : Table) (h : broken t ≡ false) where
+  rules : SoundTable t
+  rules = table-sound (record { no = rw h tt })
+
+  shape : Shaped t
+  shape = its-shape t h
+
+  many : length (bodies t) ≡ count t + 1
+  many = omega (arith, length-map (t .servers) serverBody)
+
+  short : firstBody (count t) + length (flatten (bodies t)) < 65536
+  unfolding flatten
+  short =
+      omega (
+        arith,
+        length-append (marksBody (t .marks)) (flatten (map serverBody (t .servers))),
+        length-marks (t .marks),
+        servers-short (t .servers) (shape .roomy),
+        shape .marked,
+        shape .few,
+      )
+
+  low : Passes (every (between 0 ceiling) (t .marks))
+  low = subst Passes (marks-sound (t .marks)) (rules .marks)
+
+  module _ (s : ℕ) (k : s < count t) where
+    sound-at : Passes (soundServer (count t) (getD (t .servers) s absent))
+    unfolding nth
+    sound-at = every-nth (soundServer (count t)) (t .servers) (suc s) absent (rules .servers) (omega arith) (omega arith)
+
+    small-at : getD (t .servers) s absent .config .set < 65536
+    unfolding nth
+    small-at = roomy-at (t .servers) (suc s) (shape .roomy) .small
+
+    short-at : length (getD (t .servers) s absent .log) ≤ 64
+    unfolding nth
+    short-at = roomy-at (t .servers) (suc s) (shape .roomy) .short
+
+    body-at : getD (bodies t) (suc s) (serverBody absent) ≡ serverBody (getD (t .servers) s absent)
+    body-at = List·getD-map serverBody (t .servers) s absent
+
+  sized : (e : ℕ) → e ≤ count t → Passes (mayHave e (length (getD (bodies t) e (serverBody absent))))
+  sized zero l =
+      fitting 0 0 (length (trimmed (t .marks))) (length (marksBody (t .marks))) refl (omega (arith, length-bytes (trimmed (t .marks))))
+      (omega (arith, length-trimmed (t .marks), shape .marked))
+  sized (suc s) l =
+      let a = getD (t .servers) s absent in
+      subst (λ (b : List ℕ). Passes (mayHave (suc s) (length b))) (sym (body-at s l))
+      (fitting 16 4 (length (a .log)) (length (serverBody a)) refl (length-body a) (short-at s l))
+
+  module _ (rest : List ℕ) where
+    abbrev im : List ℕ
+    im = joined (count t) (bodies t) rest
+
+    module _ (e : ℕ) (l : e ≤ count t) where
+      its-offset : offset im e ≡ place (firstBody (count t)) (bodies t) e
+      its-offset = joined-offset (count t) (bodies t) rest (serverBody absent) many short e l
+
+      its-size : size im e ≡ length (getD (bodies t) e (serverBody absent))
+      its-size = joined-size (count t) (bodies t) rest (serverBody absent) many short e l
+
+      its-stop : stop im e ≡ place (firstBody (count t)) (bodies t) (suc e)
+      its-stop = joined-stop (count t) (bodies t) rest (serverBody absent) many short e l
+
+      its-body : body im e ≡ getD (bodies t) e (serverBody absent)
+      its-body = joined-body (count t) (bodies t) rest (serverBody absent) many short e l
+
+    -- ---- no refusal holds
+
+    begins : (e : ℕ) → e ≤ count t → place (firstBody (count t)) (bodies t) e ≡ start im e
+    unfolding place
+    begins zero l = refl
+    begins (suc e) l = sym (its-stop e (omega arith))
+
+    long : length im ≡ firstBody (count t) + length (flatten (bodies t)) + length rest
+    long = length-joined (count t) (bodies t) rest (serverBody absent) many short
+
+    laid-at : (e : ℕ) → e < count t + 1 → Passes (laid im e)
+    laid-at e k =
+        let l : e ≤ count t = omega arith in
+        together {a = eqb (offset im e) (start im e) && mayHave e (size im e)}
+        (together {a = eqb (offset im e) (start im e)} (is-equal (its-offset e l ∙ begins e l))
+        (subst (λ (v : ℕ). Passes (mayHave e v)) (sym (its-size e l)) (sized e l)))
+        (is-at-most {a = stop im e} {b = length im} (omega (arith, its-stop e l, place-most (firstBody (count t)) (bodies t) (suc e), long)))
+
+    laid-out : Passes (laidOut im)
+    unfolding laidOut
+    laid-out = together {a = leb (firstBody (count t)) (length im)} (is-at-most {a = firstBody (count t)} {b = length im} (omega (arith, long))) (below-all (count t + 1) (laid im) laid-at)
+
+    sound-body : (e : ℕ) → e < count t + 1 → Passes (soundAt im e)
+    sound-body zero k = subst (λ (b : List ℕ). Passes (soundMarksBody b)) (sym (its-body 0 (omega arith))) (marks-pass (t .marks) low)
+    sound-body (suc s) k =
+        let l : suc s ≤ count t = omega arith in
+        subst (λ (b : List ℕ). Passes (soundServerBody (count t) b)) (sym (its-body (suc s) l ∙ body-at s l))
+        (server-pass (count t) (getD (t .servers) s absent) (sound-at s l) (small-at s l))
+
+    all-sound : Passes (soundBodies im)
+    unfolding soundBodies
+    all-sound = below-all (count t + 1) (soundAt im) sound-body
+
+    number : (slice : List ℕ) → length slice ≡ tableBytes → readReply im slice ≡ 0
+    number slice e =
+        let some : Passes (counted im) = together {a = leb 1 (count t)} (is-at-most (rules .some)) (is-at-most (rules .few)) in
+        sym
+        (reply-0 im slice e (omega (arith, long)) (opened im) refl refl (counted im) refl (passed some)
+        (laidOut im) refl (passed laid-out) (soundBodies im) refl (passed all-sound))
+
+    -- ---- what is read
+
+    servers-to : (k : ℕ) → k ≤ count t → serversTo k im ≡ take k (t .servers)
+    unfolding serversTo
+    servers-to zero l = refl
+    servers-to (suc k) l =
+        let a = getD (t .servers) k absent in
+        let read : serverIn (body im (suc k)) ≡ a =
+        ap serverIn (its-body (suc k) l ∙ body-at k l) ∙ server-back (count t) a (sound-at k l) (small-at k l) in
+        rw (servers-to k (omega arith), read) (sym (take-suc (t .servers) k absent l))
+
+    table : readTable im ≡ t
+    table =
+        let servers = servers-to (count t) (omega arith) ∙ take-length (t .servers) in
+        let marks = ap marksIn (its-body 0 (omega arith)) ∙ marks-back (t .marks) low (shape .marked) in
+        λ d. record { servers = servers d; marks = marks d }
+
+    end : readEnd im ≡ length (image t)
+    unfolding image
+    end =
+        let all : suc (count t) ≡ length (bodies t) = omega (arith, many) in
+        its-stop (count t) (omega arith)
+        ∙ ap (place (firstBody (count t)) (bodies t)) all
+        ∙ place-last (firstBody (count t)) (bodies t)
+        ∙ omega (arith, many, length-append (contents (firstBody (count t)) (bodies t)) (flatten (bodies t)), length-contents (firstBody (count t)) (bodies t))
+
+    -- ---- and so of the image itself
+
+    same : image t ++ rest ≡ im
+    unfolding image
+    same =
+        append-assoc (opening (count t)) (contents (firstBody (count t)) (bodies t) ++ flatten (bodies t)) rest
+        ∙ ap (λ (l : List ℕ). opening (count t) ++ l) (append-assoc (contents (firstBody (count t)) (bodies t)) (flatten (bodies t)) rest)
+
+    pub number-back : (slice : List ℕ) → length slice ≡ tableBytes → readReply (image t ++ rest) slice ≡ 0
+    number-back slice e = rw same (number slice e)
+
+    pub table-back : readTable (image t ++ rest) ≡ t
+    table-back = ap readTable same ∙ table
+
+    pub end-back : readEnd (image t ++ rest) ≡ length (image t)
+    end-back = ap readEnd same ∙ end

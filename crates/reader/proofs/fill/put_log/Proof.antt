@@ -1,0 +1,59 @@
+-- `reader::fill::put_log` meets its contract. Assumes nothing.
+use borrow.Author.Needs.{needs}
+use Prim.Native.Nat.{_-_}
+use Rattle.reader.proofs.FillLaws.{Logged, log-none, log-room, log-more, log-all}
+use Rattle.reader.proofs.fill.put_log.Statement.{statement}
+use Rattle.reader.proofs.fill.put_log.Tie as tie
+
+abbrev Inv-loop : tie.InvT-loop
+Inv-loop t₀ s b n k₀ t k = Logged t₀ t s b k
+
+abbrev μ-loop : tie.MeasureT-loop
+μ-loop t₀ s b n k₀ t k = n - k
+
+sub-n : tie.Need-sub-n Inv-loop μ-loop
+sub-n c = search needs
+
+loop-holds : tie.Need-loop-holds Inv-loop μ-loop
+loop-holds c = search (needs, log-none)
+
+add-word : tie.Need-add-word Inv-loop μ-loop
+add-word c = search needs
+
+word-requires : tie.Need-word-requires Inv-loop μ-loop
+word-requires c κs = search needs
+
+push-requires : tie.Need-push-requires Inv-loop μ-loop
+push-requires c κs = (search needs, (search needs, search (needs, log-room)))
+
+add-k : tie.Need-add-k Inv-loop μ-loop
+add-k c = search needs
+
+loop-less : tie.Need-loop-less Inv-loop μ-loop
+loop-less c = search needs
+
+loop-again : tie.Need-loop-again Inv-loop μ-loop
+loop-again c = search (needs, log-more)
+
+same-length : tie.Need-same-length Inv-loop μ-loop
+same-length c = search needs
+
+returns : tie.Need-returns Inv-loop μ-loop
+returns c = search (needs, log-all)
+
+pub put-log-spec : {M : Type 1} → statement M
+put-log-spec =
+    tie.close
+    (tie.spec
+    Inv-loop
+    μ-loop
+    sub-n
+    loop-holds
+    add-word
+    word-requires
+    push-requires
+    add-k
+    loop-less
+    loop-again
+    same-length
+    returns)
