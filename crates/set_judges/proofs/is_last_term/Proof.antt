@@ -4,11 +4,8 @@ use Rattle.set_judges.proofs.SetLaws.{last-told}
 use Rattle.set_judges.proofs.is_last_term.Statement.{statement}
 use Rattle.set_judges.proofs.is_last_term.Tie as tie
 
-term-of-requires : tie.Need-term-of-requires
-term-of-requires c κs = search needs
-
 returns : tie.Need-returns
 returns c = search (needs, last-told)
 
 pub is-last-term-spec : {M : Type 1} → statement M
-is-last-term-spec = tie.close (tie.spec term-of-requires returns)
+is-last-term-spec = tie.close (tie.spec (λ c κs. search needs) returns)
