@@ -2,11 +2,11 @@
 ghost use mathlib.Core.Path.{_≡_};
 ghost use mathlib.Core.Bool.{false};
 ghost use lib.Dec.{eqb};
-ghost use lib.ListN.{drop};
+ghost use mathlib.Core.List.{_++_};
 ghost use Rattle.members.specs.Members.{oneApart, majority, passing};
 ghost use Rattle.algorithm.specs.Table.{count, server, ceiling};
-ghost use Rattle.algorithm.specs.Actions.{electRefusals, sameTerm, p1, reconfigureRefusals, commitRefusals};
-ghost use Rattle.words.specs.Refusal.{first, holdsIn};
+ghost use Rattle.algorithm.specs.Actions.{electRefusals, sameTerm, p1, majorityRefusals, markRefusals, reconfigureRefusals, lacksEntry, markedOtherwise, commitRefusals};
+ghost use Rattle.words.specs.Refusal.{first};
 ghost use Rattle.table.specs.Layout.{tableIn};
 ghost use Rattle.table.specs.Slice.{Held, Within};
 use algorithm::CEILING;
@@ -101,11 +101,11 @@ fn is_safe(t: &[u8], i: usize, same: u16) -> bool
     false
 }
 
-// Refusals 14 to 16, whatever the set.
+// Refusals 14 to 16: they do not look at the new set.
 fn judge_majorities(t: &[u8], i: usize) -> u8
     requires { ⌜ Held (now t) ⌝ }
     requires { ⌜ Within (now t) i ⌝ }
-    ensures { λ r. ⌜ r ≡ first (drop 4 (reconfigureRefusals (tableIn (now (t .entry))) i 0)) ⌝ }
+    ensures { λ r. ⌜ r ≡ first (majorityRefusals (tableIn (now (t .entry))) i ++ markRefusals (tableIn (now (t .entry))) i) ⌝ }
 {
     let set = set_of(t, i);
     let o = sharing(t, i, set);
@@ -141,21 +141,21 @@ pub fn judge_reconfigure(t: &[u8], i: usize, m: u16) -> u8
     judge_majorities(t, i)
 }
 
-// Refusal 22, whatever the set.
+// Refusal 22.
 fn lacks_entry(t: &[u8], i: usize) -> bool
     requires { ⌜ Held (now t) ⌝ }
     requires { ⌜ Within (now t) i ⌝ }
-    ensures { λ r. ⌜ r ≡ holdsIn 22 (commitRefusals (tableIn (now (t .entry))) i 0) ⌝ }
+    ensures { λ r. ⌜ r ≡ lacksEntry (server (tableIn (now (t .entry))) i) ⌝ }
 {
     (length_of(t, i).0 == 0) | !term_is(last_of(t, i), term_of(t, i))
 }
 
-// Refusal 24, whatever the set: it is asked where 22 does not hold, so the log has an entry.
+// Refusal 24. It is asked where 22 does not hold, so the log has an entry.
 fn is_marked_otherwise(t: &[u8], i: usize) -> bool
     requires { ⌜ Held (now t) ⌝ }
     requires { ⌜ Within (now t) i ⌝ }
-    requires { ⌜ holdsIn 22 (commitRefusals (tableIn (now t)) i 0) ≡ false ⌝ }
-    ensures { λ r. ⌜ r ≡ holdsIn 24 (commitRefusals (tableIn (now (t .entry))) i 0) ⌝ }
+    requires { ⌜ lacksEntry (server (tableIn (now t)) i) ≡ false ⌝ }
+    ensures { λ r. ⌜ r ≡ markedOtherwise (tableIn (now (t .entry))) i ⌝ }
 {
     let m = mark_of(t, length_of(t, i));
     (m.0 != 0) & !term_is(m, term_of(t, i))
