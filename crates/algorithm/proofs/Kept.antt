@@ -10,7 +10,7 @@ use lib.ListN.{length, take, length-append, length-take, length-replicate}
 use Rattle.members.specs.Members.{within}
 use Rattle.words.proofs.Tests.{Passes, Fails, together, refuted, both-refuted, equal, unequal, less, above, is-at-most}
 use Rattle.words.specs.Lists.{every}
-use Rattle.algorithm.specs.Table.{Entry, entry, Log, Table, count, server, primary, entryAt, withServer, changed, withConfig, withLog, withEntry, ceiling, positions, soundEntry, soundServer, broken, freshServer, fresh}
+use Rattle.algorithm.specs.Table.{Entry, entry, Log, Table, count, server, primary, entryAt, withServer, changed, withConfig, withLog, withEntry, ceiling, positions, soundEntry, soundServer, broken, freshServer, fresh, mostServers}
 use Rattle.algorithm.specs.Actions.{Action, elect, reconfigure, commit, send, spread, fetch, rollBack, write, unknown, actionOf, steppedDown, winner, nextConfig, joins}
 use Rattle.algorithm.specs.Run.{after, step}
 use Rattle.words.proofs.Lists.{every-nth, every-plus, every-take, every-replicate}
@@ -103,7 +103,7 @@ step-sound t a h =
     ⊎-elim (λ d. rw (d .table) (sound-table (after-sound t (actionOf a) (d .taken)))) (λ r. rw (r .table) h) (outcome t a)
 
 -- a fresh table of 1 to 16 servers with a set within them is not broken
-pub fresh-sound : (n M : ℕ) → 1 ≤ n → n ≤ 16 → Passes (within M n) → Fails (broken (fresh n M))
+pub fresh-sound : (n M : ℕ) → 1 ≤ n → n ≤ mostServers → Passes (within M n) → Fails (broken (fresh n M))
 unfolding every
 fresh-sound n M some few w =
     let e : count (fresh n M) ≡ n = length-replicate n (freshServer M) in

@@ -10,7 +10,7 @@ use lib.ListN.{length}
 use Rattle.members.specs.Members.{member, within}
 use Rattle.words.proofs.Tests.{Passes, Fails, both, together, either, first-of, second-of, refuted, unrefuted, equal, at-most, is-equal, is-at-most}
 use Rattle.words.specs.Lists.{replace, every}
-use Rattle.algorithm.specs.Table.{Config, Server, Table, count, absent, server, primary, secondary, withServer, ceiling, positions, soundConfig, soundEntry, soundServer, broken}
+use Rattle.algorithm.specs.Table.{Config, Server, Table, count, absent, server, primary, secondary, withServer, ceiling, positions, soundConfig, soundEntry, soundServer, broken, mostServers}
 use Rattle.algorithm.specs.Actions.{steppedDown, votersFrom, voted}
 use Rattle.algorithm.specs.Refusals.{known}
 use Rattle.words.proofs.Choice.{cond-elim}
@@ -34,7 +34,7 @@ pub record SoundServer (n : ℕ) (s : Server) : Type 0 where
 
 pub record SoundTable (t : Table) : Type 0 where
   pub some : 1 ≤ count t
-  pub few : count t ≤ 16
+  pub few : count t ≤ mostServers
   pub servers : Passes (every (soundServer (count t)) (t .servers))
   pub full : length (t .marks) ≡ positions
   pub marks : Passes (every (λ m. leb m ceiling) (t .marks))

@@ -3,7 +3,7 @@ use Prim.Native.Nat.{ℕ, _+_, _≤_}
 use mathlib.Core.Path.{_≡_, _∙_}
 use mathlib.Core.List.{List}
 use lib.ListN.{length}
-use Rattle.algorithm.specs.Table.{entry, Server, absent, server, termAt, withServer, withMark, withRole, withTerm, withConfig, withEntry}
+use Rattle.algorithm.specs.Table.{entry, Server, absent, server, termAt, withServer, withMark, withRole, withTerm, withConfig, withEntry, positions}
 use Rattle.algorithm.specs.Actions.{steppedDown, reconfigureAfter, sendAfter, spreadAfter, writeAfter, fetchAfter, commitAfter}
 use Rattle.table.specs.Layout.{tableIn}
 use Rattle.table.specs.Slice.{Holds, Held, Became, Within, seen}
@@ -59,5 +59,5 @@ module _ (b b' : List ℕ) (i : ℕ) (a : Row) (e : a ≡ seen (server (tableIn 
 -- ---- the last position of a log that was read
 
 pub last-position : (b : List ℕ) (i : ℕ) (a : Row) → a ≡ seen (server (tableIn b) i) → Held b → 1 ≤ length (server (tableIn b) i .log)
-    → (1 ≤ a .length .0) × (a .length .0 ≤ 64)
+    → (1 ≤ a .length .0) × (a .length .0 ≤ positions)
 last-position b i a e h l = rw e (l, its-room i h .short)

@@ -38,7 +38,7 @@ module _ {b : List ℕ} (held : Held b) (o v : ℕ) where
   abbrev t : Table
   t = tableIn b
 
-  marked-more : (k : ℕ) → o + k < 64 → someMarked (part (t .marks) o (suc k)) v ≡ (eqb (mark t (o + suc k)) v || someMarked (part (t .marks) o k) v)
+  marked-more : (k : ℕ) → o + k < positions → someMarked (part (t .marks) o (suc k)) v ≡ (eqb (mark t (o + suc k)) v || someMarked (part (t .marks) o k) v)
   unfolding nth
   marked-more k l =
       some-more (drop o (t .marks)) k v (simp length-drop (omega (arith, held .shaped .marked)))
@@ -48,7 +48,7 @@ module _ {b : List ℕ} (held : Held b) (o v : ℕ) where
   unfolding someMarked
   marked-none = refl
 
-  pub marked-next : (k n m w : ℕ) (r s : Bool) → o + n ≤ 64 → k < n → r ≡ someMarked (part (t .marks) o k) v → s ≡ eqb m w → m ≡ mark t (o + (k + 1)) → w ≡ v
+  pub marked-next : (k n m w : ℕ) (r s : Bool) → o + n ≤ positions → k < n → r ≡ someMarked (part (t .marks) o k) v → s ≡ eqb m w → m ≡ mark t (o + (k + 1)) → w ≡ v
       → (s || r) ≡ someMarked (part (t .marks) o (k + 1)) v
   marked-next k n m w r s l h e c f g = rw (e, c, f, g, add-one) (sym (marked-more k (omega arith)))
 
@@ -66,7 +66,7 @@ module _ {b : List ℕ} (held : Held b) (o i q : ℕ) where
   T = server (tableIn b) i .term
 
   -- where no position is marked it stays
-  unmarked : (k : ℕ) → o + k ≤ 64 → someMarked (part (tableIn b .marks) o k) T ≡ false → q ≡ narrowedPast o k (tableIn b) i q
+  unmarked : (k : ℕ) → o + k ≤ positions → someMarked (part (tableIn b .marks) o k) T ≡ false → q ≡ narrowedPast o k (tableIn b) i q
   unfolding narrowedPast
   unmarked zero l e = refl
   unmarked (suc k) l e =
@@ -77,7 +77,7 @@ module _ {b : List ℕ} (held : Held b) (o i q : ℕ) where
       apart true b e = absurd (let z : _≡_ {A = ℕ} 0 1 = cc in omega arith)
       apart false b e = (refl, e)
 
-  pub past-unmarked : (k : ℕ) (r : Bool) → o + k ≤ 64 → r ≡ someMarked (part (tableIn b .marks) o k) T → not r ≡ true → q ≡ narrowedPast o k (tableIn b) i q
+  pub past-unmarked : (k : ℕ) (r : Bool) → o + k ≤ positions → r ≡ someMarked (part (tableIn b .marks) o k) T → not r ≡ true → q ≡ narrowedPast o k (tableIn b) i q
   past-unmarked k r l e h = unmarked k l (sym e ∙ not-true r h)
 
 module _ (o : ℕ) (t : Table) (i q : ℕ) where
@@ -153,4 +153,4 @@ module _ (t : Table) (i q : ℕ) where
   holding-eight k m r h e = let next : 8 * (k + 1) ≡ 8 * k + 8 = omega arith in rw (next, e) (holding-more 8 (8 * k) m h)
 
   pub holding-all : (k m : ℕ) → k ≤ 8 → 8 ≤ k → Holding (8 * k) m → m ≡ passing (count t) (holdsCommitted t i) q
-  holding-all k m l h o = let all : 8 * k ≡ 64 = omega arith in rw all at (o .are)
+  holding-all k m l h o = let all : 8 * k ≡ positions = omega arith in rw all at (o .are)

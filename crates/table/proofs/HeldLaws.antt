@@ -11,7 +11,7 @@ use Rattle.algorithm.specs.Refusals.{known}
 use Rattle.words.proofs.Lists.{length-replace, replace-nth, nth-replaced, replace-replace}
 use Rattle.algorithm.proofs.Seen.{known-range}
 use Rattle.words.specs.Words.{words, Put}
-use Rattle.table.specs.Layout.{tableBytes, row, layout, tableOf, tableIn}
+use Rattle.table.specs.Layout.{tableBytes, row, layout, tableOf, tableIn, rowWords}
 use Rattle.table.specs.Slice.{Roomy, AllRoomy, Holds, Held, Became, Within}
 use Rattle.table.proofs.ListLaws.{get-mid, set-mid}
 use Rattle.table.proofs.LayoutLaws.{Framed, server-in, table-back}
@@ -53,7 +53,7 @@ its-room {b} i h = roomy-at (tableIn b .servers) i (h .shaped .roomy)
 -- the slice has, between what is around a row, the words r
 pub record Open {A : Type 0} (b : List ℕ) {at : ℕ} {part whole : A → List ℕ} (f : Framed at part whole) (r : List ℕ) : Type 0 where
   pub sized : length b ≡ tableBytes
-  pub full : length r ≡ 70
+  pub full : length r ≡ rowWords
   pub laid : words b ≡ f .before ++ (r ++ f .after)
 
 module _ {A : Type 0} {at : ℕ} {part whole : A → List ℕ} (f : Framed at part whole) where
@@ -61,11 +61,11 @@ module _ {A : Type 0} {at : ℕ} {part whole : A → List ℕ} (f : Framed at pa
   opened b a z e = record { sized = z; full = f .full a; laid = e ∙ f .around a }
 
   -- one word of the row read, and one put
-  pub read : {b r : List ℕ} (k : ℕ) → Open b f r → k < 70 → getD (words b) (at + k) 0 ≡ getD r k 0
+  pub read : {b r : List ℕ} (k : ℕ) → Open b f r → k < rowWords → getD (words b) (at + k) 0 ≡ getD r k 0
   read {b} {r} k o l =
       ap (λ (c : List ℕ). getD c (at + k) 0) (o .laid) ∙ get-mid (f .before) r (f .after) at k (f .place) (omega (arith, o .full))
 
-  pub then : {b b' r : List ℕ} {k v : ℕ} → Open b f r → k < 70 → Put b b' (at + k) v → Open b' f (set r k v)
+  pub then : {b b' r : List ℕ} {k v : ℕ} → Open b f r → k < rowWords → Put b b' (at + k) v → Open b' f (set r k v)
   then {b} {b'} {r} {k} {v} o l p =
       record {
         sized = p .sized ∙ o .sized;
@@ -82,7 +82,7 @@ module _ {A : Type 0} {at : ℕ} {part whole : A → List ℕ} (f : Framed at pa
 -- ---- the row of a server
 
 module _ {b : List ℕ} {i : ℕ} (h : Held b) (w : Within b i) where
-  pub frame : Framed (70 * i) row (λ s. layout (withServer (tableIn b) i s))
+  pub frame : Framed (rowWords * i) row (λ s. layout (withServer (tableIn b) i s))
   frame = server-in (tableIn b) i (w .some) (w .known) (h .shaped .few)
 
   pub open-row : Open b frame (row (server (tableIn b) i))
@@ -110,7 +110,7 @@ module _ {b : List ℕ} {i : ℕ} (h : Held b) (w : Within b i) where
                 };
           }
 
-  pub field-read : (f r : ℕ) → f < 70 → r ≡ getD (words b) (70 * i + f) 0 → r ≡ getD (row (server (tableIn b) i)) f 0
+  pub field-read : (f r : ℕ) → f < rowWords → r ≡ getD (words b) (rowWords * i + f) 0 → r ≡ getD (row (server (tableIn b) i)) f 0
   field-read f r l e = e ∙ read frame f open-row l
 
 -- one change after another at the same server

@@ -6,8 +6,8 @@ use mathlib.Core.List.{List, [], _∷_, _++_, append-assoc}
 use lib.ListN.{length, set, take, drop, replicate, length-set, length-append, length-replicate, length-map, replicate-append-replicate}
 use lib.Seq.{drop-at, take-at, take-append-seam}
 use Rattle.words.specs.Lists.{replace}
-use Rattle.algorithm.specs.Table.{Entry, Log, entries, Server, Table, count, withServer}
-use Rattle.table.specs.Layout.{padded, terms, row, head, rows, layout, serverOf, serversOf, tableOf}
+use Rattle.algorithm.specs.Table.{Entry, Log, entries, Server, Table, count, withServer, positions, mostServers}
+use Rattle.table.specs.Layout.{padded, terms, row, head, rows, layout, serverOf, serversOf, tableOf, rowWords, tableWords}
 use Rattle.table.specs.Slice.{AllRoomy, Shaped}
 
 -- ---- lengths
@@ -18,30 +18,30 @@ length-padded zero l = refl
 length-padded (suc k) [] = ap suc (length-padded k [])
 length-padded (suc k) (x ∷ l) = ap suc (length-padded k l)
 
-pub length-row : (s : Server) → length (row s) ≡ 70
+pub length-row : (s : Server) → length (row s) ≡ rowWords
 length-row s = omega (arith, length-padded 64 (terms (s .log)))
 
-pub length-head : (n : ℕ) (ms : List ℕ) → length (head n ms) ≡ 70
+pub length-head : (n : ℕ) (ms : List ℕ) → length (head n ms) ≡ rowWords
 length-head n ms = omega (arith, length-padded 64 ms)
 
-length-rows : (k : ℕ) (ss : List Server) → length (rows k ss) ≡ 70 * k
+length-rows : (k : ℕ) (ss : List Server) → length (rows k ss) ≡ rowWords * k
 unfolding rows
 length-rows zero ss = refl
-length-rows (suc k) [] = simp length-append (omega (arith, length-replicate {A = ℕ} 70 0, length-rows k []))
+length-rows (suc k) [] = simp length-append (omega (arith, length-replicate {A = ℕ} rowWords 0, length-rows k []))
 length-rows (suc k) (s ∷ ss) = simp length-append (omega (arith, length-row s, length-rows k ss))
 
-pub length-layout : (t : Table) → length (layout t) ≡ 1190
+pub length-layout : (t : Table) → length (layout t) ≡ tableWords
 unfolding layout
-length-layout t = simp length-append (omega (arith, length-head (count t) (t .marks), length-rows 16 (t .servers)))
+length-layout t = simp length-append (omega (arith, length-head (count t) (t .marks), length-rows mostServers (t .servers)))
 
 -- rows of no server are 0
-pub rows-none : (k : ℕ) → rows k [] ≡ replicate (70 * k) 0
+pub rows-none : (k : ℕ) → rows k [] ≡ replicate (rowWords * k) 0
 unfolding rows
 rows-none zero = refl
 rows-none (suc k) =
-    let more : 70 + 70 * k ≡ 70 * suc k = omega arith in
+    let more : rowWords + rowWords * k ≡ rowWords * suc k = omega arith in
     ap (λ (l : List ℕ). replicate 70 0 ++ l) (rows-none k)
-    ∙ replicate-append-replicate 70 (70 * k) 0
+    ∙ replicate-append-replicate 70 (rowWords * k) 0
     ∙ ap (λ (j : ℕ). replicate j 0) more
 
 -- ---- a row and what is around it
@@ -51,10 +51,10 @@ pub record Framed {A : Type 0} (at : ℕ) (part whole : A → List ℕ) : Type 0
   pub before : List ℕ
   pub after : List ℕ
   pub place : length before ≡ at
-  pub full : (a : A) → length (part a) ≡ 70
+  pub full : (a : A) → length (part a) ≡ rowWords
   pub around : (a : A) → whole a ≡ before ++ (part a ++ after)
 
-row-in : (k : ℕ) (ss : List Server) (j : ℕ) → j < length ss → j < k → Framed (70 * j) row (λ s. rows k (set ss j s))
+row-in : (k : ℕ) (ss : List Server) (j : ℕ) → j < length ss → j < k → Framed (rowWords * j) row (λ s. rows k (set ss j s))
 unfolding rows
 row-in zero ss j h l = absurd (omega arith)
 row-in (suc k) [] j h l = absurd (omega arith)
@@ -71,11 +71,11 @@ row-in (suc k) (s ∷ ss) (suc j) h l =
     }
 
 -- server i's row stands at 70 i
-pub server-in : (t : Table) (i : ℕ) → 1 ≤ i → i ≤ count t → count t ≤ 16 → Framed (70 * i) row (λ s. layout (withServer t i s))
+pub server-in : (t : Table) (i : ℕ) → 1 ≤ i → i ≤ count t → count t ≤ mostServers → Framed (rowWords * i) row (λ s. layout (withServer t i s))
 unfolding layout replace
 server-in t zero h l m = absurd (omega arith)
 server-in t (suc j) h l m =
-    let r = row-in 16 (t .servers) j (omega arith) (omega arith) in
+    let r = row-in mostServers (t .servers) j (omega arith) (omega arith) in
     let top = head (count t) (t .marks) in
     record {
       before = top ++ r .before;
@@ -83,7 +83,7 @@ server-in t (suc j) h l m =
       place = simp length-append (omega (arith, length-head (count t) (t .marks), r .place));
       full = length-row;
       around = λ x.
-          ap (λ (n : ℕ). head n (t .marks) ++ rows 16 (set (t .servers) j x)) (length-set (t .servers) j x)
+          ap (λ (n : ℕ). head n (t .marks) ++ rows mostServers (set (t .servers) j x)) (length-set (t .servers) j x)
           ∙ ap (λ (l : List ℕ). top ++ l) (r .around x)
           ∙ sym (append-assoc top (r .before) (row x ++ r .after));
     }
@@ -92,7 +92,7 @@ server-in t (suc j) h l m =
 pub marks-in : (t : Table) → Framed 0 (head (count t)) (λ ms. layout (record { servers = t .servers; marks = ms }))
 unfolding layout
 marks-in t =
-    record { before = []; after = rows 16 (t .servers); place = refl; full = length-head (count t); around = λ ms. refl }
+    record { before = []; after = rows mostServers (t .servers); place = refl; full = length-head (count t); around = λ ms. refl }
 
 -- ---- reading back
 
@@ -116,16 +116,16 @@ take-padded k l r h =
     rw (padded-is k l (k - length l) (omega arith), append-assoc l (replicate (k - length l) 0) r) (take-append-seam l (replicate (k - length l) 0 ++ r))
 
 -- a log's room: its terms, and 0 beyond them
-module _ (l : Log) (r : List ℕ) (h : length l ≤ 64) where
+module _ (l : Log) (r : List ℕ) (h : length l ≤ positions) where
   many : length (terms l) ≡ length l
   many = length-map l (λ (e : Entry). e .term)
 
   pub log-terms : take (length l) (padded 64 (terms l) ++ r) ≡ terms l
   log-terms = rw (← many) (take-padded 64 (terms l) r (omega (arith, many)))
 
-  pub log-beyond : take (64 - length l) (drop (length l) (padded 64 (terms l) ++ r)) ≡ replicate (64 - length l) 0
+  pub log-beyond : take (positions - length l) (drop (length l) (padded 64 (terms l) ++ r)) ≡ replicate (positions - length l) 0
   log-beyond =
-      let k = 64 - length l in
+      let k = positions - length l in
       rw (
         padded-is 64 (terms l) k (omega (arith, many)),
         append-assoc (terms l) (replicate k 0) r,
@@ -137,7 +137,7 @@ pub entries-terms : (l : Log) → entries (terms l) ≡ l
 entries-terms [] = refl
 entries-terms (e ∷ l) = ap (λ (m : Log). e ∷ m) (entries-terms l)
 
-pub server-back : (s : Server) (r : List ℕ) → length (s .log) ≤ 64 → serverOf (row s ++ r) ≡ s
+pub server-back : (s : Server) (r : List ℕ) → length (s .log) ≤ positions → serverOf (row s ++ r) ≡ s
 unfolding serverOf
 server-back s r h =
     let log : entries (take (length (s .log)) (padded 64 (terms (s .log)) ++ r)) ≡ s .log = ap entries (log-terms (s .log) r h) ∙ entries-terms (s .log) in
@@ -148,13 +148,13 @@ unfolding serversOf rows
 servers-back k [] h f = refl
 servers-back zero (s ∷ ss) h f = absurd (omega arith)
 servers-back (suc k) (s ∷ ss) h f =
-    rw (server-back s (rows k ss) (f .0 .short), drop-at (row s) (rows k ss) 70 (length-row s), servers-back k ss (omega arith) (f .1))
+    rw (server-back s (rows k ss) (f .0 .short), drop-at (row s) (rows k ss) rowWords (length-row s), servers-back k ss (omega arith) (f .1))
 
-pub marks-back : (t : Table) → length (t .marks) ≡ 64 → take 64 (drop 6 (layout t)) ≡ t .marks
+pub marks-back : (t : Table) → length (t .marks) ≡ positions → take 64 (drop 6 (layout t)) ≡ t .marks
 unfolding layout
 marks-back t h =
-    ap (λ (n : ℕ). take n (padded 64 (t .marks) ++ rows 16 (t .servers))) (sym h)
-    ∙ take-padded 64 (t .marks) (rows 16 (t .servers)) (omega arith)
+    ap (λ (n : ℕ). take n (padded 64 (t .marks) ++ rows mostServers (t .servers))) (sym h)
+    ∙ take-padded 64 (t .marks) (rows mostServers (t .servers)) (omega arith)
 
 pub table-back : (t : Table) → Shaped t → tableOf (layout t) ≡ t
 unfolding tableOf layout
@@ -162,5 +162,5 @@ table-back t h = λ d. record { servers = servers d; marks = marks-back t (h .ma
   where
     servers : serversOf (count t) (drop 70 (layout t)) ≡ t .servers
     servers =
-        rw (drop-at (head (count t) (t .marks)) (rows 16 (t .servers)) 70 (length-head (count t) (t .marks)))
-        (servers-back 16 (t .servers) (h .few) (h .roomy))
+        rw (drop-at (head (count t) (t .marks)) (rows mostServers (t .servers)) rowWords (length-head (count t) (t .marks)))
+        (servers-back mostServers (t .servers) (h .few) (h .roomy))

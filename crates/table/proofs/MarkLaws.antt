@@ -7,7 +7,7 @@ use mathlib.Core.List.{List, [], _∷_}
 use lib.ListN.{length, take, drop}
 use lib.Seq.{drop-cons, drop-length}
 use Rattle.words.specs.Lists.{nth}
-use Rattle.algorithm.specs.Table.{mark, kept, trimmed}
+use Rattle.algorithm.specs.Table.{mark, kept, trimmed, positions}
 use Rattle.table.specs.Layout.{tableIn}
 use Rattle.table.specs.Slice.{Held}
 
@@ -41,7 +41,7 @@ shown (suc n) (m ∷ ms) e = kept-some m (trimmed ms) n (shown n ms e)
 
 -- the marks behind the first n are all 0
 pub record Bare (ms : List ℕ) (n : ℕ) : Type 0 where
-  pub few : n ≤ 64
+  pub few : n ≤ positions
   pub bare : trimmed (drop n ms) ≡ []
 
 module _ (t : List ℕ) (h : Held t) where

@@ -11,7 +11,7 @@ use lib.Pow.{pow-mono}
 use Rattle.members.specs.Members.{within}
 use Rattle.words.proofs.Tests.{Passes, both, less}
 use Rattle.words.specs.Lists.{every, between}
-use Rattle.algorithm.specs.Table.{Log, Server, Table, count, primary, secondary, withLog, ceiling, soundConfig, soundEntry, soundServer}
+use Rattle.algorithm.specs.Table.{Log, Server, Table, count, primary, secondary, withLog, ceiling, soundConfig, soundEntry, soundServer, positions, mostServers}
 use Rattle.words.proofs.Lists.{every-cons}
 use Rattle.algorithm.proofs.Sound.{SoundServer, SoundTable, server-sound}
 use Rattle.words.proofs.WordLaws.{FourBytes, words-append, words-zeros, words-between}
@@ -26,12 +26,12 @@ apart true d e = refl
 apart false d e = refl
 
 pub server-parts : (n : ℕ) (s : Server)
-    → soundServer n s ≡ (soundServer n (withLog [] s) && leb (length (s .log)) 64 && every soundEntry (s .log))
+    → soundServer n s ≡ (soundServer n (withLog [] s) && leb (length (s .log)) positions && every soundEntry (s .log))
 unfolding every
 server-parts n s =
     apart
     ((primary s && leb 1 (s .term) || secondary s) && leb (s .term) ceiling && soundConfig n (s .config))
-    (leb (length (s .log)) 64)
+    (leb (length (s .log)) positions)
     (every soundEntry (s .log))
 
 -- an entry is sound by its term
@@ -56,9 +56,9 @@ words-padded (suc k) (x ∷ l) h = (h .0, words-padded k l (h .1))
 pub words-log : (l : Log) → Passes (every soundEntry l) → FourBytes (terms l)
 words-log l h = words-between 1 ceiling (omega arith) (terms l) (subst Passes (terms-sound l) h)
 
-module _ {n : ℕ} (few : n ≤ 16) where
+module _ {n : ℕ} (few : n ≤ mostServers) where
   small : (m : ℕ) → Passes (within m n) → m < 65536
-  small m h = omega (arith, less {a = m} {b = 2 ^ n} (both {a = ltb 0 m} h .1), pow-mono {i = n} {j = 16} few)
+  small m h = omega (arith, less {a = m} {b = 2 ^ n} (both {a = ltb 0 m} h .1), pow-mono {i = n} {j = mostServers} few)
 
   all-roomy : (ss : List Server) → Passes (every (soundServer n) ss) → AllRoomy ss
   all-roomy [] h = tt
@@ -99,6 +99,6 @@ pub words-layout : {t : Table} → SoundTable t → FourBytes (layout t)
 unfolding layout
 words-layout {t} s =
     let marks = words-between 0 ceiling (omega arith) (t .marks) (subst Passes (marks-sound (t .marks)) (s .marks)) in
-    words-append (head (count t) (t .marks)) (rows 16 (t .servers))
+    words-append (head (count t) (t .marks)) (rows mostServers (t .servers))
     (omega (arith, s .few), (omega arith, (omega arith, (omega arith, (omega arith, (omega arith, words-padded 64 (t .marks) marks))))))
-    (words-rows (s .few) 16 (t .servers) (s .servers))
+    (words-rows (s .few) mostServers (t .servers) (s .servers))

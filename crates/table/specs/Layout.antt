@@ -1,6 +1,6 @@
 -- A table in words: 17 rows of 70. Row 0 has the number of servers, five 0 and the 64 marks; row s has server s, and 0 where there is none.
 -- Assumes nothing.
-use Prim.Native.Nat.{ℕ, zero, suc}
+use Prim.Native.Nat.{ℕ, zero, suc, _+_, _*_}
 use mathlib.Core.Bool.{Bool, true, false, not, _&&_}
 use mathlib.Core.List.{List, [], _∷_, _++_, map}
 use lib.Dec.{eqb}
@@ -12,11 +12,15 @@ use Rattle.words.specs.Words.{words, bytes}
 
 -- the words of a row: six, and one for each position
 abbrev pub rowWords : ℕ
-rowWords = 70
+rowWords = 6 + positions
 
--- the bytes of a table: 17 rows, four bytes to a word
+-- the words of a table: row 0, and a row for each server that there may be
+abbrev pub tableWords : ℕ
+tableWords = rowWords * (1 + mostServers)
+
+-- the bytes of a table, four to a word
 abbrev pub tableBytes : ℕ
-tableBytes = 4760
+tableBytes = 4 * tableWords
 
 -- ---- from a table to bytes
 

@@ -8,7 +8,7 @@ use lib.ListN.{length, getD, set, drop, replicate, length-set, length-append, le
 use borrow.Author.Fill.{fill-none, fill-more}
 use lib.Seq.{drop-length, set-at, getD-at, append-snoc}
 use Rattle.words.specs.Lists.{nth, replace}
-use Rattle.algorithm.specs.Table.{Server, Table, count, absent, changed, withConfig, freshServer, fresh}
+use Rattle.algorithm.specs.Table.{Server, Table, count, absent, changed, withConfig, freshServer, fresh, positions, mostServers}
 use Rattle.words.specs.Words.{words, Put}
 use Rattle.table.specs.Layout.{tableBytes, padded, rows, layout, tableIn}
 use Rattle.table.specs.Slice.{AllRoomy, Holds, Held, Became, Within, blank}
@@ -55,21 +55,21 @@ rows-absent zero k h = refl
 rows-absent (suc n) zero h = absurd (omega arith)
 rows-absent (suc n) (suc k) h = ap (λ (l : List ℕ). replicate 70 0 ++ l) (rows-absent n k (omega arith))
 
-layout-blank : (n : ℕ) → n ≤ 16 → set (replicate 1190 0) 0 n ≡ layout (blank n)
+layout-blank : (n : ℕ) → n ≤ mostServers → set (replicate 1190 0) 0 n ≡ layout (blank n)
 unfolding layout padded
-layout-blank n h = rw (length-replicate n absent, rows-absent n 16 h, rows-none 16)
+layout-blank n h = rw (length-replicate n absent, rows-absent n mostServers h, rows-none mostServers)
 
 roomy-replicate : (n : ℕ) → AllRoomy (replicate n absent)
 roomy-replicate zero = tt
 roomy-replicate (suc n) = (record { short = omega arith; small = omega arith }, roomy-replicate n)
 
-pub blank-holds : (b b₁ b₂ : List ℕ) (n : ℕ) → length b ≡ tableBytes → n ≤ 16 → b₁ ≡ replicate (length b) 0 → Put b₁ b₂ 0 n → Holds b₂ (blank n)
+pub blank-holds : (b b₁ b₂ : List ℕ) (n : ℕ) → length b ≡ tableBytes → n ≤ mostServers → b₁ ≡ replicate (length b) 0 → Put b₁ b₂ 0 n → Holds b₂ (blank n)
 blank-holds b b₁ b₂ n z h e p =
     let cleared : b₁ ≡ replicate tableBytes 0 = e ∙ ap (λ (k : ℕ). replicate k 0) z in
     record {
       sized = p .sized ∙ ap length cleared ∙ length-replicate {A = ℕ} tableBytes 0;
       laid = p .word ∙ ap (λ (l : List ℕ). set l 0 n) (ap words cleared ∙ words-zero 1190) ∙ layout-blank n h;
-      shaped = record { few = omega (arith, length-replicate n absent); roomy = roomy-replicate n; marked = length-replicate {A = ℕ} 64 0 };
+      shaped = record { few = omega (arith, length-replicate n absent); roomy = roomy-replicate n; marked = length-replicate {A = ℕ} positions 0 };
     }
 
 -- ---- a fresh table

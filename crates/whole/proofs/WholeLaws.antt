@@ -11,10 +11,10 @@ use lib.ListN.{length, getD, take, drop, replicate, length-drop, length-map, tak
 use lib.Seq.{drop-drop, drop-at, length-take-le, take-add, take-suc, take-all}
 use Rattle.words.proofs.Tests.{Passes, both, together, at-most, is-at-most}
 use Rattle.words.specs.Lists.{every, between, part}
-use Rattle.algorithm.specs.Table.{entries, Server, Table, count, ceiling, soundServer}
+use Rattle.algorithm.specs.Table.{entries, Server, Table, count, ceiling, soundServer, positions, mostServers}
 use Rattle.words.proofs.Lists.{every-cons, every-replicate}
 use Rattle.algorithm.proofs.Sound.{SoundTable}
-use Rattle.table.specs.Layout.{padded, terms, row, head, rows, layout, serverOf, serversOf, tableOf}
+use Rattle.table.specs.Layout.{padded, terms, row, head, rows, layout, serverOf, serversOf, tableOf, rowWords, tableWords}
 use Rattle.table.proofs.LayoutLaws.{length-row, length-head, length-layout, rows-none, padded-is, log-terms, log-beyond, server-back, marks-back}
 use Rattle.table.proofs.SoundLaws.{server-parts, terms-sound, marks-sound}
 use Rattle.whole.specs.Check.{soundRow, soundRows, soundWords}
@@ -45,13 +45,13 @@ row-passes n s r h =
     (together
     (together l (rw (server-back s r short) f))
     (rw (log-terms (s .log) r short) (subst Passes (terms-sound (s .log)) entries)))
-    (rw (← drop-drop k 6 d, log-beyond (s .log) r short) (zeros-pass (64 - k)))
+    (rw (← drop-drop k 6 d, log-beyond (s .log) r short) (zeros-pass (positions - k)))
 
 pub terms-entries : (l : List ℕ) → terms (entries l) ≡ l
 terms-entries [] = refl
 terms-entries (x ∷ l) = ap (λ (m : List ℕ). x ∷ m) (terms-entries l)
 
-six : (d : List ℕ) → 70 ≤ length d
+six : (d : List ℕ) → rowWords ≤ length d
     → take 70 d ≡ getD d 0 0 ∷ getD d 1 0 ∷ getD d 2 0 ∷ getD d 3 0 ∷ getD d 4 0 ∷ getD d 5 0 ∷ take 64 (drop 6 d)
 six [] h = absurd (omega arith)
 six (a ∷ []) h = absurd (omega arith)
@@ -67,17 +67,17 @@ record RowOf (n : ℕ) (d : List ℕ) : Type 0 where
   sound : Passes (soundServer n (serverOf d))
 
 -- a log's room is its entries and 0 beyond them
-room-back : (k : ℕ) (e : List ℕ) → k ≤ 64 → 64 ≤ length e → Passes (every (between 0 0) (take (64 - k) (drop k e))) → padded 64 (take k e) ≡ take 64 e
+room-back : (k : ℕ) (e : List ℕ) → k ≤ positions → positions ≤ length e → Passes (every (between 0 0) (take (positions - k) (drop k e))) → padded 64 (take k e) ≡ take 64 e
 room-back k e h l z =
     let taken : length (take k e) ≡ k = length-take-le k e (omega arith) in
-    let left : length (take (64 - k) (drop k e)) ≡ 64 - k = length-take-le (64 - k) (drop k e) (omega (arith, length-drop k e)) in
-    let all : k + (64 - k) ≡ 64 = omega arith in
-    padded-is 64 (take k e) (64 - k) (omega (arith, taken))
+    let left : length (take (positions - k) (drop k e)) ≡ positions - k = length-take-le (positions - k) (drop k e) (omega (arith, length-drop k e)) in
+    let all : k + (positions - k) ≡ positions = omega arith in
+    padded-is 64 (take k e) (positions - k) (omega (arith, taken))
     ∙ ap (λ (m : List ℕ). take k e ++ m) (ap (λ (j : ℕ). replicate j 0) (sym left) ∙ sym (all-zero _ z))
-    ∙ sym (take-add k (64 - k) e)
+    ∙ sym (take-add k (positions - k) e)
     ∙ ap (λ (j : ℕ). take j e) all
 
-row-back : (n : ℕ) (d : List ℕ) → 70 ≤ length d → Passes (soundRow n d) → RowOf n d
+row-back : (n : ℕ) (d : List ℕ) → rowWords ≤ length d → Passes (soundRow n d) → RowOf n d
 unfolding soundRow serverOf
 row-back n d long h =
     let k = getD d 5 0 in
@@ -86,7 +86,7 @@ row-back n d long h =
     let (figures, beyond) = both h in
     let (figured, tested) = both figures in
     let (l, f) = both figured in
-    let short : k ≤ 64 = at-most l in
+    let short : k ≤ positions = at-most l in
     let many : length log ≡ k = length-map (take k e) _ ∙ length-take-le k e (omega (arith, length-drop 6 d)) in
     let room : padded 64 (terms log) ≡ take 64 e =
     ap (padded 64) (terms-entries (take k e)) ∙ room-back k e short (omega (arith, length-drop 6 d)) (rw (drop-drop k 6 d) beyond) in
@@ -95,7 +95,7 @@ row-back n d long h =
           ap₂ (λ (x : ℕ) (m : List ℕ). getD d 0 0 ∷ getD d 1 0 ∷ getD d 2 0 ∷ getD d 3 0 ∷ getD d 4 0 ∷ x ∷ m) many room ∙ sym (six d long);
       sound =
           subst Passes (sym (server-parts n (serverOf d)))
-          (together (together f (is-at-most {a = length log} {b = 64} (omega (arith, many)))) (subst Passes (sym (terms-sound log)) (rw (terms-entries (take k e)) tested)));
+          (together (together f (is-at-most {a = length log} {b = positions} (omega (arith, many)))) (subst Passes (sym (terms-sound log)) (rw (terms-entries (take k e)) tested)));
     }
 
 -- ---- the rows of the servers, and those beyond
@@ -107,21 +107,21 @@ rows-pass n zero (s ∷ ss) h t = absurd (omega arith)
 rows-pass n (suc k) (s ∷ ss) h t =
     let (here, rest) = every-cons (soundServer n) s ss t in
     together {a = soundRow n (row s ++ rows k ss)} (row-passes n s (rows k ss) here)
-    (rw (drop-at (row s) (rows k ss) 70 (length-row s)) (rows-pass n k ss (omega arith) rest))
+    (rw (drop-at (row s) (rows k ss) rowWords (length-row s)) (rows-pass n k ss (omega arith) rest))
 
-next-rows : (m : ℕ) (l : List ℕ) → drop (70 * m) (drop 70 l) ≡ drop (70 * suc m) l
+next-rows : (m : ℕ) (l : List ℕ) → drop (rowWords * m) (drop 70 l) ≡ drop (rowWords * suc m) l
 next-rows m l =
-    let more : 70 + 70 * m ≡ 70 * suc m = omega arith in
-    drop-drop (70 * m) 70 l ∙ ap (λ (j : ℕ). drop j l) more
+    let more : rowWords + rowWords * m ≡ rowWords * suc m = omega arith in
+    drop-drop (rowWords * m) rowWords l ∙ ap (λ (j : ℕ). drop j l) more
 
-beyond-pass : (k : ℕ) (ss : List Server) → length ss ≤ k → Passes (every (between 0 0) (drop (70 * length ss) (rows k ss)))
+beyond-pass : (k : ℕ) (ss : List Server) → length ss ≤ k → Passes (every (between 0 0) (drop (rowWords * length ss) (rows k ss)))
 unfolding rows
-beyond-pass k [] h = rw (rows-none k) (zeros-pass (70 * k))
+beyond-pass k [] h = rw (rows-none k) (zeros-pass (rowWords * k))
 beyond-pass zero (s ∷ ss) h = absurd (omega arith)
 beyond-pass (suc k) (s ∷ ss) h =
-    rw (← next-rows (length ss) (row s ++ rows k ss), drop-at (row s) (rows k ss) 70 (length-row s)) (beyond-pass k ss (omega arith))
+    rw (← next-rows (length ss) (row s ++ rows k ss), drop-at (row s) (rows k ss) rowWords (length-row s)) (beyond-pass k ss (omega arith))
 
-rows-back : (n k m : ℕ) (d : List ℕ) → length d ≡ 70 * k → m ≤ k → Passes (soundRows m n d) → Passes (every (between 0 0) (drop (70 * m) d))
+rows-back : (n k m : ℕ) (d : List ℕ) → length d ≡ rowWords * k → m ≤ k → Passes (soundRows m n d) → Passes (every (between 0 0) (drop (rowWords * m) d))
     → (rows k (serversOf m d) ≡ d) × Passes (every (soundServer n) (serversOf m d))
 unfolding soundRows rows serversOf every
 rows-back n k zero d e h t z = (rows-none k ∙ ap (λ (j : ℕ). replicate j 0) (sym e) ∙ sym (all-zero d z), record { yes = tt })
@@ -135,28 +135,28 @@ rows-back n (suc k) (suc m) d e h t z =
 -- ---- the table
 
 -- what stands behind the rows of n servers
-past-rows : (n : ℕ) (c : List ℕ) → length c ≡ 1190 → part c (70 * n + 70) (1120 - 70 * n) ≡ drop (70 * n) (drop 70 c)
+past-rows : (n : ℕ) (c : List ℕ) → length c ≡ tableWords → part c (rowWords * n + rowWords) (rowWords * mostServers - rowWords * n) ≡ drop (rowWords * n) (drop 70 c)
 past-rows n c e =
-    rw (add-comm (70 * n) 70, ← drop-drop (70 * n) 70 c)
-    (take-all (1120 - 70 * n) (drop (70 * n) (drop 70 c)) (simp length-drop (omega arith)))
+    rw (add-comm (rowWords * n) rowWords, ← drop-drop (rowWords * n) rowWords c)
+    (take-all (rowWords * mostServers - rowWords * n) (drop (rowWords * n) (drop 70 c)) (simp length-drop (omega arith)))
 
 pub words-pass : {t : Table} → SoundTable t → Passes (soundWords (count t) (layout t))
 unfolding soundWords layout every
 words-pass {t} s =
     let n = count t in
     let top = head n (t .marks) in
-    let all = rows 16 (t .servers) in
+    let all = rows mostServers (t .servers) in
     let under : drop 70 (layout t) ≡ all = drop-at top all 70 (length-head n (t .marks)) in
     let spare : Passes (every (between 0 0) (part (layout t) 1 5)) = record { yes = tt } in
     let marks : Passes (every (between 0 ceiling) (part (layout t) 6 64)) =
     rw (marks-back t (s .full)) (subst Passes (marks-sound (t .marks)) (s .marks)) in
-    let servers : Passes (soundRows n n (drop 70 (layout t))) = rw under (rows-pass n 16 (t .servers) (s .few) (s .servers)) in
-    let beyond : Passes (every (between 0 0) (part (layout t) (70 * n + 70) (1120 - 70 * n))) =
-    rw (past-rows n (layout t) (length-layout t), under) (beyond-pass 16 (t .servers) (s .few)) in
+    let servers : Passes (soundRows n n (drop 70 (layout t))) = rw under (rows-pass n mostServers (t .servers) (s .few) (s .servers)) in
+    let beyond : Passes (every (between 0 0) (part (layout t) (rowWords * n + rowWords) (rowWords * mostServers - rowWords * n))) =
+    rw (past-rows n (layout t) (length-layout t), under) (beyond-pass mostServers (t .servers) (s .few)) in
     together (together (together spare marks) servers) beyond
 
 -- the first row of words whose five figures after the first are 0
-top-back : (c : List ℕ) → 70 ≤ length c → Passes (every (between 0 0) (part c 1 5)) → take 70 c ≡ head (getD c 0 0) (take 64 (drop 6 c))
+top-back : (c : List ℕ) → rowWords ≤ length c → Passes (every (between 0 0) (part c 1 5)) → take 70 c ≡ head (getD c 0 0) (take 64 (drop 6 c))
 unfolding every
 top-back c h z =
     let none : Passes (every (between 0 0) (take 0 (drop 64 (drop 6 c)))) = record { yes = tt } in
@@ -171,7 +171,7 @@ unfolding serversOf
 length-servers zero d = refl
 length-servers (suc n) d = ap suc (length-servers n (drop 70 d))
 
-pub words-back : (n : ℕ) (c : List ℕ) → length c ≡ 1190 → n ≡ getD c 0 0 → 1 ≤ n → n ≤ 16 → Passes (soundWords n c)
+pub words-back : (n : ℕ) (c : List ℕ) → length c ≡ tableWords → n ≡ getD c 0 0 → 1 ≤ n → n ≤ mostServers → Passes (soundWords n c)
     → (layout (tableOf c) ≡ c) × SoundTable (tableOf c)
 unfolding soundWords layout tableOf
 words-back n c e first some few h =
@@ -180,11 +180,11 @@ words-back n c e first some few h =
     let (rest, beyond) = both {a = every (between 0 0) (part c 1 5) && every (between 0 ceiling) ms && soundRows n n d} h in
     let (top, tested) = both {a = every (between 0 0) (part c 1 5) && every (between 0 ceiling) ms} rest in
     let (five, low) = both {a = every (between 0 0) (part c 1 5)} top in
-    let (laid, sound) = rows-back n 16 n d (simp length-drop (omega arith)) few tested (rw (← past-rows n c e) beyond) in
+    let (laid, sound) = rows-back n mostServers n d (simp length-drop (omega arith)) few tested (rw (← past-rows n c e) beyond) in
     let counted : length (serversOf (getD c 0 0) d) ≡ getD c 0 0 = length-servers (getD c 0 0) d in
-    let many : length ms ≡ 64 = length-take-le 64 (drop 6 c) (omega (arith, length-drop 6 c)) in (
-      ap (λ (k : ℕ). head k ms ++ rows 16 (serversOf (getD c 0 0) d)) counted
-          ∙ ap₂ _++_ (sym (top-back c (omega arith) five)) (ap (λ (k : ℕ). rows 16 (serversOf k d)) (sym first) ∙ laid)
+    let many : length ms ≡ positions = length-take-le 64 (drop 6 c) (omega (arith, length-drop 6 c)) in (
+      ap (λ (k : ℕ). head k ms ++ rows mostServers (serversOf (getD c 0 0) d)) counted
+          ∙ ap₂ _++_ (sym (top-back c (omega arith) five)) (ap (λ (k : ℕ). rows mostServers (serversOf k d)) (sym first) ∙ laid)
           ∙ take-append-drop 70 c,
       record {
         some = omega (arith, counted);

@@ -11,12 +11,13 @@ use Rattle.words.proofs.Tests.{Passes, together, is-equal, is-true}
 use Rattle.algorithm.proofs.Sound.{SoundTable, table-sound, sound-table}
 use Rattle.words.specs.Words.{words, bytes}
 use Rattle.words.proofs.WordLaws.{length-words, bytes-words}
-use Rattle.table.specs.Layout.{tableBytes, layout, stored, tableOf, tableIn, same, whole}
+use Rattle.table.specs.Layout.{tableBytes, layout, stored, tableOf, tableIn, same, whole, tableWords}
 use Rattle.table.specs.Slice.{Held}
 use Rattle.table.proofs.RowLaws.{count-read}
 use Rattle.whole.specs.Check.{soundWords}
 use Rattle.whole.proofs.WholeLaws.{words-pass, words-back}
 use Rattle.whole.proofs.Determined.{same-self, whole-held, whole-sound}
+use Rattle.algorithm.specs.Table.{mostServers}
 
 -- two tests of which each passes with the other
 tell-same : (a b : Bool) → (Passes a → Passes b) → (Passes b → Passes a) → a ≡ b
@@ -51,7 +52,7 @@ kept b h =
 
 module _ (b : List ℕ) (n : ℕ) (first : n ≡ getD (words b) 0 0) where
   -- what a whole slice says of its first word
-  counted : Passes (whole b) → (1 ≤ n) × (n ≤ 16)
+  counted : Passes (whole b) → (1 ≤ n) × (n ≤ mostServers)
   counted h =
       let k = kept b h in
       let e = count-read b n (k .held) first in
@@ -60,13 +61,13 @@ module _ (b : List ℕ) (n : ℕ) (first : n ≡ getD (words b) 0 0) where
   pub no-server : n ≡ 0 → false ≡ whole b
   no-server e = tell-same false (whole b) (λ h. absurd (h .yes)) (λ h. absurd (omega (arith, counted h)))
 
-  pub too-many : 16 < n → false ≡ whole b
+  pub too-many : mostServers < n → false ≡ whole b
   too-many l = tell-same false (whole b) (λ h. absurd (h .yes)) (λ h. absurd (omega (arith, counted h)))
 
-  pub answer : (r : Bool) → ((i : ℕ) → getD b i 0 < 256) → length b ≡ tableBytes → (n ≡ 0 → ⊥) → n ≤ 16 → r ≡ soundWords n (words b) → r ≡ whole b
+  pub answer : (r : Bool) → ((i : ℕ) → getD b i 0 < 256) → length b ≡ tableBytes → (n ≡ 0 → ⊥) → n ≤ mostServers → r ≡ soundWords n (words b) → r ≡ whole b
   answer r bytewise sized some few e = e ∙ tell-same (soundWords n (words b)) (whole b) whole-by by-whole
     where
-      size : length (words b) ≡ 1190
+      size : length (words b) ≡ tableWords
       size = omega (arith, length-words b)
 
       whole-by : Passes (soundWords n (words b)) → Passes (whole b)
