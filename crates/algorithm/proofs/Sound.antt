@@ -10,7 +10,7 @@ use lib.ListN.{length}
 use Rattle.members.specs.Members.{member, within}
 use Rattle.words.proofs.Tests.{Passes, Fails, both, together, either, first-of, second-of, refuted, unrefuted, equal, at-most, is-equal, is-at-most}
 use Rattle.words.specs.Lists.{replace, every}
-use Rattle.algorithm.specs.Table.{Config, Server, Table, count, absent, server, primary, secondary, withServer, ceiling, positions, soundConfig, soundEntry, soundServer, broken, mostServers}
+use Rattle.algorithm.specs.Table.{Config, Server, Table, count, absent, server, primary, secondary, withServers, withServer, withMark, ceiling, positions, soundConfig, soundEntry, soundServer, broken, mostServers}
 use Rattle.algorithm.specs.Actions.{steppedDown, votersFrom, voted}
 use Rattle.algorithm.specs.Refusals.{known}
 use Rattle.words.proofs.Choice.{cond-elim}
@@ -93,7 +93,7 @@ here-sound {t} h i k = let (a, b) = known-range k in server-sound (every-nth (so
 
 module _ {t : Table} (h : SoundTable t) where
   -- as many servers, each as sound
-  pub others-sound : (l : List Server) → length l ≡ count t → Passes (every (soundServer (count t)) l) → SoundTable (record { servers = l; marks = t .marks })
+  pub others-sound : (l : List Server) → length l ≡ count t → Passes (every (soundServer (count t)) l) → SoundTable (withServers l t)
   others-sound l e k = record {
     some = omega (arith, h .some);
     few = omega (arith, h .few);
@@ -106,7 +106,7 @@ module _ {t : Table} (h : SoundTable t) where
   with-sound i s k =
       others-sound (replace (t .servers) i s) (length-replace (t .servers) i s) (every-replace (soundServer (count t)) (t .servers) i s (h .servers) (sound-server k))
 
-  pub mark-sound : (p m : ℕ) → m ≤ ceiling → SoundTable (record { servers = t .servers; marks = replace (t .marks) p m })
+  pub mark-sound : (p m : ℕ) → m ≤ ceiling → SoundTable (withMark t p m)
   mark-sound p m l = record {
     some = h .some;
     few = h .few;

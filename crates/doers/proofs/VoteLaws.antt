@@ -8,7 +8,7 @@ use mathlib.Core.List.{List, [], _∷_}
 use lib.ListN.{length, getD, set}
 use Rattle.members.specs.Members.{bit, member, within}
 use Rattle.words.specs.Lists.{nth, replace}
-use Rattle.algorithm.specs.Table.{Config, Server, Table, count, absent, server, withServer, withRole, withTerm, withConfig}
+use Rattle.algorithm.specs.Table.{Config, Server, Table, count, absent, server, withServer, withRole, withTerm, withConfig, withServers}
 use Rattle.algorithm.specs.Actions.{steppedDown, votersFrom, voted, electAfter}
 use Rattle.algorithm.proofs.Seen.{log-voted}
 use Rattle.table.specs.Layout.{tableIn}
@@ -61,7 +61,7 @@ module _ (q v : ℕ) where
   all-voted (suc k) p (s ∷ ss) e = ap (λ (l : List Server). cond (member p q) (steppedDown v s) s ∷ l) (all-voted k (suc p) ss (omega arith))
 
 abbrev pub votedTo : ℕ → Table → ℕ → ℕ → Table
-votedTo k t q v = record { servers = partly k 1 q v (t .servers); marks = t .marks }
+votedTo k t q v = withServers (partly k 1 q v (t .servers)) t
 
 -- after k of n servers
 pub record Voted (b₀ : List ℕ) (q v n : ℕ) (b : List ℕ) (k : ℕ) : Type 0 where

@@ -57,7 +57,7 @@ module _ {b : List ℕ} (held : Held b) (o v : ℕ) where
 
 -- of all positions
 pub marked-any : {b : List ℕ} (v : ℕ) (r : Bool) → Held b → r ≡ someMarked (part (tableIn b .marks) 0 positions) v → r ≡ someMarked (tableIn b .marks) v
-marked-any {b} v r held e = e ∙ ap (λ (l : List ℕ). someMarked l v) (take-all 64 (tableIn b .marks) (omega (arith, held .shaped .marked)))
+marked-any {b} v r held e = e ∙ ap (λ (l : List ℕ). someMarked l v) (take-all positions (tableIn b .marks) (omega (arith, held .shaped .marked)))
 
 -- ---- a set narrowed
 

@@ -6,7 +6,7 @@ use mathlib.Core.List.{List, [], _∷_, _++_}
 use lib.ListN.{length, getD, set, length-set}
 use Rattle.words.proofs.Tests.{Passes}
 use Rattle.words.specs.Lists.{nth, replace}
-use Rattle.algorithm.specs.Table.{Server, Table, count, absent, server, withServer, changed}
+use Rattle.algorithm.specs.Table.{Server, Table, count, absent, server, withServer, changed, withServers}
 use Rattle.algorithm.specs.Refusals.{known}
 use Rattle.words.proofs.Lists.{length-replace, replace-nth, nth-replaced, replace-replace}
 use Rattle.algorithm.proofs.Seen.{known-range}
@@ -89,7 +89,7 @@ module _ {b : List ℕ} {i : ℕ} (h : Held b) (w : Within b i) where
   open-row = opened frame b (server (tableIn b) i) (h .sized) (h .laid ∙ ap layout (sym unchanged))
     where
       unchanged : withServer (tableIn b) i (server (tableIn b) i) ≡ tableIn b
-      unchanged = λ d. record { servers = replace-nth (tableIn b .servers) i absent d; marks = tableIn b .marks }
+      unchanged = λ d. withServers (replace-nth (tableIn b .servers) i absent d) (tableIn b)
 
   pub close-row : {b' : List ℕ} (s : Server) → Roomy s → Open b' frame (row s) → Became b b' (withServer (tableIn b) i s)
   close-row {b'} s l o = record { holds = holds; held = held holds; same = ap count (its-table holds) ∙ kept }
@@ -122,7 +122,7 @@ again {b} {b₁} {b₂} {i} f g w p q =
     let after : changed (tableIn b₁) i g ≡ changed t i (λ s. g (f s)) =
     ap (λ (x : Table). changed x i g) (its-table (p .holds))
     ∙ (λ d. withServer (withServer t i s) i (g (nth-replaced (t .servers) i s absent (w .some) (w .known) d)))
-    ∙ (λ d. record { servers = replace-replace (t .servers) i s (g s) d; marks = t .marks }) in
+    ∙ (λ d. withServers (replace-replace (t .servers) i s (g s) d) t) in
     record { holds = subst (λ (x : Table). Holds b₂ x) after (q .holds); held = q .held; same = q .same ∙ p .same }
 
 -- ---- a server that is known

@@ -6,7 +6,7 @@ use mathlib.Core.List.{List, [], _∷_, _++_, append-assoc}
 use lib.ListN.{length, set, take, drop, replicate, length-set, length-append, length-replicate, length-map, replicate-append-replicate}
 use lib.Seq.{drop-at, take-at, take-append-seam}
 use Rattle.words.specs.Lists.{replace}
-use Rattle.algorithm.specs.Table.{Entry, Log, entries, Server, Table, count, withServer, positions, mostServers}
+use Rattle.algorithm.specs.Table.{Entry, Log, entries, Server, Table, count, withServer, positions, mostServers, withServers, withMarks, withLog}
 use Rattle.table.specs.Layout.{padded, terms, row, head, rows, layout, serverOf, serversOf, tableOf, rowWords, tableWords}
 use Rattle.table.specs.Slice.{AllRoomy, Shaped}
 
@@ -19,10 +19,10 @@ length-padded (suc k) [] = ap suc (length-padded k [])
 length-padded (suc k) (x ∷ l) = ap suc (length-padded k l)
 
 pub length-row : (s : Server) → length (row s) ≡ rowWords
-length-row s = omega (arith, length-padded 64 (terms (s .log)))
+length-row s = omega (arith, length-padded positions (terms (s .log)))
 
 pub length-head : (n : ℕ) (ms : List ℕ) → length (head n ms) ≡ rowWords
-length-head n ms = omega (arith, length-padded 64 ms)
+length-head n ms = omega (arith, length-padded positions ms)
 
 length-rows : (k : ℕ) (ss : List Server) → length (rows k ss) ≡ rowWords * k
 unfolding rows
@@ -40,8 +40,8 @@ unfolding rows
 rows-none zero = refl
 rows-none (suc k) =
     let more : rowWords + rowWords * k ≡ rowWords * suc k = omega arith in
-    ap (λ (l : List ℕ). replicate 70 0 ++ l) (rows-none k)
-    ∙ replicate-append-replicate 70 (rowWords * k) 0
+    ap (λ (l : List ℕ). replicate rowWords 0 ++ l) (rows-none k)
+    ∙ replicate-append-replicate rowWords (rowWords * k) 0
     ∙ ap (λ (j : ℕ). replicate j 0) more
 
 -- ---- a row and what is around it
@@ -89,7 +89,7 @@ server-in t (suc j) h l m =
     }
 
 -- the marks' row stands first
-pub marks-in : (t : Table) → Framed 0 (head (count t)) (λ ms. layout (record { servers = t .servers; marks = ms }))
+pub marks-in : (t : Table) → Framed 0 (head (count t)) (λ ms. layout (withMarks ms t))
 unfolding layout
 marks-in t =
     record { before = []; after = rows mostServers (t .servers); place = refl; full = length-head (count t); around = λ ms. refl }
@@ -120,14 +120,14 @@ module _ (l : Log) (r : List ℕ) (h : length l ≤ positions) where
   many : length (terms l) ≡ length l
   many = length-map l (λ (e : Entry). e .term)
 
-  pub log-terms : take (length l) (padded 64 (terms l) ++ r) ≡ terms l
-  log-terms = rw (← many) (take-padded 64 (terms l) r (omega (arith, many)))
+  pub log-terms : take (length l) (padded positions (terms l) ++ r) ≡ terms l
+  log-terms = rw (← many) (take-padded positions (terms l) r (omega (arith, many)))
 
-  pub log-beyond : take (positions - length l) (drop (length l) (padded 64 (terms l) ++ r)) ≡ replicate (positions - length l) 0
+  pub log-beyond : take (positions - length l) (drop (length l) (padded positions (terms l) ++ r)) ≡ replicate (positions - length l) 0
   log-beyond =
       let k = positions - length l in
       rw (
-        padded-is 64 (terms l) k (omega (arith, many)),
+        padded-is positions (terms l) k (omega (arith, many)),
         append-assoc (terms l) (replicate k 0) r,
         drop-at (terms l) (replicate k 0 ++ r) (length l) many,
       )
@@ -140,8 +140,8 @@ entries-terms (e ∷ l) = ap (λ (m : Log). e ∷ m) (entries-terms l)
 pub server-back : (s : Server) (r : List ℕ) → length (s .log) ≤ positions → serverOf (row s ++ r) ≡ s
 unfolding serverOf
 server-back s r h =
-    let log : entries (take (length (s .log)) (padded 64 (terms (s .log)) ++ r)) ≡ s .log = ap entries (log-terms (s .log) r h) ∙ entries-terms (s .log) in
-    λ d. record { role = s .role; term = s .term; config = s .config; log = log d }
+    let log : entries (take (length (s .log)) (padded positions (terms (s .log)) ++ r)) ≡ s .log = ap entries (log-terms (s .log) r h) ∙ entries-terms (s .log) in
+    λ d. withLog (log d) s
 
 servers-back : (k : ℕ) (ss : List Server) → length ss ≤ k → AllRoomy ss → serversOf (length ss) (rows k ss) ≡ ss
 unfolding serversOf rows
@@ -150,17 +150,17 @@ servers-back zero (s ∷ ss) h f = absurd (omega arith)
 servers-back (suc k) (s ∷ ss) h f =
     rw (server-back s (rows k ss) (f .0 .short), drop-at (row s) (rows k ss) rowWords (length-row s), servers-back k ss (omega arith) (f .1))
 
-pub marks-back : (t : Table) → length (t .marks) ≡ positions → take 64 (drop 6 (layout t)) ≡ t .marks
+pub marks-back : (t : Table) → length (t .marks) ≡ positions → take positions (drop 6 (layout t)) ≡ t .marks
 unfolding layout
 marks-back t h =
-    ap (λ (n : ℕ). take n (padded 64 (t .marks) ++ rows mostServers (t .servers))) (sym h)
-    ∙ take-padded 64 (t .marks) (rows mostServers (t .servers)) (omega arith)
+    ap (λ (n : ℕ). take n (padded positions (t .marks) ++ rows mostServers (t .servers))) (sym h)
+    ∙ take-padded positions (t .marks) (rows mostServers (t .servers)) (omega arith)
 
 pub table-back : (t : Table) → Shaped t → tableOf (layout t) ≡ t
 unfolding tableOf layout
-table-back t h = λ d. record { servers = servers d; marks = marks-back t (h .marked) d }
+table-back t h = λ d. withServers (servers d) (withMarks (marks-back t (h .marked) d) t)
   where
-    servers : serversOf (count t) (drop 70 (layout t)) ≡ t .servers
+    servers : serversOf (count t) (drop rowWords (layout t)) ≡ t .servers
     servers =
         rw (drop-at (head (count t) (t .marks)) (rows mostServers (t .servers)) rowWords (length-head (count t) (t .marks)))
         (servers-back mostServers (t .servers) (h .few) (h .roomy))

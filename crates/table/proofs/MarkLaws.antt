@@ -53,7 +53,7 @@ module _ (t : List ℕ) (h : Held t) where
   unfolding trimmed nth
   behind n v k e = rw (drop-cons marks n 0 (omega (arith, h .shaped .marked, k .few)), k .bare, e)
 
-  pub bare-none : Bare marks 64
+  pub bare-none : Bare marks positions
   unfolding trimmed
   bare-none = record { few = omega arith; bare = rw (← h .shaped .marked, drop-length marks) }
 

@@ -15,7 +15,7 @@ use Rattle.algorithm.specs.Table.{Log, Server, Table, count, primary, secondary
 use Rattle.words.proofs.Lists.{every-cons}
 use Rattle.algorithm.proofs.Sound.{SoundServer, SoundTable, server-sound}
 use Rattle.words.proofs.WordLaws.{FourBytes, words-append, words-zeros, words-between}
-use Rattle.table.specs.Layout.{padded, terms, row, head, rows, layout}
+use Rattle.table.specs.Layout.{padded, terms, row, head, rows, layout, rowWords}
 use Rattle.table.specs.Slice.{AllRoomy, Shaped}
 
 -- ---- the rules as tests of numbers
@@ -76,7 +76,7 @@ module _ {n : ℕ} (few : n ≤ mostServers) where
         omega (arith, small (s .config .set) (h .config .set)),
         (
           omega (arith, h .config .version),
-          (omega (arith, h .config .term), (omega (arith, h .short), words-padded 64 (terms (s .log)) (words-log (s .log) (h .entries)))),
+          (omega (arith, h .config .term), (omega (arith, h .short), words-padded positions (terms (s .log)) (words-log (s .log) (h .entries)))),
         ),
       ),
     ),
@@ -85,7 +85,7 @@ module _ {n : ℕ} (few : n ≤ mostServers) where
   words-rows : (k : ℕ) (ss : List Server) → Passes (every (soundServer n) ss) → FourBytes (rows k ss)
   unfolding rows
   words-rows zero ss h = tt
-  words-rows (suc k) [] h = words-append (replicate 70 0) (rows k []) (words-zeros 70) (words-rows k [] h)
+  words-rows (suc k) [] h = words-append (replicate rowWords 0) (rows k []) (words-zeros rowWords) (words-rows k [] h)
   words-rows (suc k) (s ∷ ss) h =
       let (here, rest) = every-cons (soundServer n) s ss h in
       words-append (row s) (rows k ss) (words-row s (server-sound {s = s} here)) (words-rows k ss rest)
@@ -100,5 +100,5 @@ unfolding layout
 words-layout {t} s =
     let marks = words-between 0 ceiling (omega arith) (t .marks) (subst Passes (marks-sound (t .marks)) (s .marks)) in
     words-append (head (count t) (t .marks)) (rows mostServers (t .servers))
-    (omega (arith, s .few), (omega arith, (omega arith, (omega arith, (omega arith, (omega arith, words-padded 64 (t .marks) marks))))))
+    (omega (arith, s .few), (omega arith, (omega arith, (omega arith, (omega arith, (omega arith, words-padded positions (t .marks) marks))))))
     (words-rows (s .few) mostServers (t .servers) (s .servers))

@@ -9,7 +9,7 @@ use Rattle.algorithm.specs.Table.{Table, broken}
 use Rattle.algorithm.proofs.Sound.{SoundTable, table-sound}
 use Rattle.words.specs.Words.{bytes}
 use Rattle.words.proofs.WordLaws.{length-bytes, bytes-words, words-bytes}
-use Rattle.table.specs.Layout.{tableBytes, layout, stored, tableIn}
+use Rattle.table.specs.Layout.{tableBytes, layout, stored, tableIn, tableWords}
 use Rattle.table.specs.Slice.{Shaped, Holds}
 use Rattle.table.proofs.LayoutLaws.{length-layout}
 use Rattle.table.proofs.HeldLaws.{its-table}
@@ -39,7 +39,7 @@ module _ (t : Table) (h : broken t ≡ false) where
 -- a slice that holds a table has that table's bytes
 pub held-stored : (b : List ℕ) (t : Table) → ((i : ℕ) → getD b i 0 < 256) → Holds b t → b ≡ stored t
 unfolding stored
-held-stored b t f h = sym (bytes-words b 1190 (h .sized) f) ∙ ap bytes (h .laid)
+held-stored b t f h = sym (bytes-words b tableWords (h .sized) f) ∙ ap bytes (h .laid)
 
 -- so two slices that hold one table are equal: what the functions promise of a slice leaves no freedom
 pub holds-unique : (b b' : List ℕ) (t : Table) → ((i : ℕ) → getD b i 0 < 256) → ((i : ℕ) → getD b' i 0 < 256) → Holds b t → Holds b' t → b ≡ b'

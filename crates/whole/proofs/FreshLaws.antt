@@ -8,9 +8,9 @@ use lib.ListN.{length, getD, set, drop, replicate, length-set, length-append, le
 use borrow.Author.Fill.{fill-none, fill-more}
 use lib.Seq.{drop-length, set-at, getD-at, append-snoc}
 use Rattle.words.specs.Lists.{nth, replace}
-use Rattle.algorithm.specs.Table.{Server, Table, count, absent, changed, withConfig, freshServer, fresh, positions, mostServers}
+use Rattle.algorithm.specs.Table.{Server, Table, count, absent, changed, withConfig, freshServer, fresh, positions, mostServers, withServers}
 use Rattle.words.specs.Words.{words, Put}
-use Rattle.table.specs.Layout.{tableBytes, padded, rows, layout, tableIn}
+use Rattle.table.specs.Layout.{tableBytes, padded, rows, layout, tableIn, rowWords, tableWords}
 use Rattle.table.specs.Slice.{AllRoomy, Holds, Held, Became, Within, blank}
 use Rattle.table.proofs.LayoutLaws.{rows-none}
 use Rattle.table.proofs.HeldLaws.{its-table, held}
@@ -53,9 +53,9 @@ rows-absent : (n k : ℕ) → n ≤ k → rows k (replicate n absent) ≡ rows k
 unfolding rows padded
 rows-absent zero k h = refl
 rows-absent (suc n) zero h = absurd (omega arith)
-rows-absent (suc n) (suc k) h = ap (λ (l : List ℕ). replicate 70 0 ++ l) (rows-absent n k (omega arith))
+rows-absent (suc n) (suc k) h = ap (λ (l : List ℕ). replicate rowWords 0 ++ l) (rows-absent n k (omega arith))
 
-layout-blank : (n : ℕ) → n ≤ mostServers → set (replicate 1190 0) 0 n ≡ layout (blank n)
+layout-blank : (n : ℕ) → n ≤ mostServers → set (replicate tableWords 0) 0 n ≡ layout (blank n)
 unfolding layout padded
 layout-blank n h = rw (length-replicate n absent, rows-absent n mostServers h, rows-none mostServers)
 
@@ -68,7 +68,7 @@ blank-holds b b₁ b₂ n z h e p =
     let cleared : b₁ ≡ replicate tableBytes 0 = e ∙ ap (λ (k : ℕ). replicate k 0) z in
     record {
       sized = p .sized ∙ ap length cleared ∙ length-replicate {A = ℕ} tableBytes 0;
-      laid = p .word ∙ ap (λ (l : List ℕ). set l 0 n) (ap words cleared ∙ words-zero 1190) ∙ layout-blank n h;
+      laid = p .word ∙ ap (λ (l : List ℕ). set l 0 n) (ap words cleared ∙ words-zero tableWords) ∙ layout-blank n h;
       shaped = record { few = omega (arith, length-replicate n absent); roomy = roomy-replicate n; marked = length-replicate {A = ℕ} positions 0 };
     }
 
@@ -76,7 +76,7 @@ blank-holds b b₁ b₂ n z h e p =
 
 -- of a blank table's n servers the first k have the set m
 abbrev partly : ℕ → ℕ → ℕ → Table
-partly n m k = record { servers = replicate k (freshServer m) ++ replicate (n - k) absent; marks = replicate 64 0 }
+partly n m k = withServers (replicate k (freshServer m) ++ replicate (n - k) absent) (blank n)
 
 pub record Given (b : List ℕ) (n m k : ℕ) : Type 0 where
   pub within : k ≤ n
@@ -131,4 +131,4 @@ module _ (b : List ℕ) (n m : ℕ) where
         ap (λ (j : ℕ). replicate k (freshServer m) ++ replicate j absent) none
         ∙ append-nil (replicate k (freshServer m))
         ∙ ap (λ (j : ℕ). replicate j (freshServer m)) all in
-        subst (λ (ss : List Server). Holds b (record { servers = ss; marks = replicate 64 0 })) every (g .holds)
+        subst (λ (ss : List Server). Holds b (withServers ss (blank n))) every (g .holds)

@@ -52,7 +52,7 @@ terms-entries [] = refl
 terms-entries (x ∷ l) = ap (λ (m : List ℕ). x ∷ m) (terms-entries l)
 
 six : (d : List ℕ) → rowWords ≤ length d
-    → take 70 d ≡ getD d 0 0 ∷ getD d 1 0 ∷ getD d 2 0 ∷ getD d 3 0 ∷ getD d 4 0 ∷ getD d 5 0 ∷ take 64 (drop 6 d)
+    → take rowWords d ≡ getD d 0 0 ∷ getD d 1 0 ∷ getD d 2 0 ∷ getD d 3 0 ∷ getD d 4 0 ∷ getD d 5 0 ∷ take positions (drop 6 d)
 six [] h = absurd (omega arith)
 six (a ∷ []) h = absurd (omega arith)
 six (a ∷ b ∷ []) h = absurd (omega arith)
@@ -63,16 +63,16 @@ six (a ∷ b ∷ c ∷ d ∷ e ∷ f ∷ l) h = refl
 
 -- the row at the front of some words is that of the server in it
 record RowOf (n : ℕ) (d : List ℕ) : Type 0 where
-  laid : row (serverOf d) ≡ take 70 d
+  laid : row (serverOf d) ≡ take rowWords d
   sound : Passes (soundServer n (serverOf d))
 
 -- a log's room is its entries and 0 beyond them
-room-back : (k : ℕ) (e : List ℕ) → k ≤ positions → positions ≤ length e → Passes (every (between 0 0) (take (positions - k) (drop k e))) → padded 64 (take k e) ≡ take 64 e
+room-back : (k : ℕ) (e : List ℕ) → k ≤ positions → positions ≤ length e → Passes (every (between 0 0) (take (positions - k) (drop k e))) → padded positions (take k e) ≡ take positions e
 room-back k e h l z =
     let taken : length (take k e) ≡ k = length-take-le k e (omega arith) in
     let left : length (take (positions - k) (drop k e)) ≡ positions - k = length-take-le (positions - k) (drop k e) (omega (arith, length-drop k e)) in
     let all : k + (positions - k) ≡ positions = omega arith in
-    padded-is 64 (take k e) (positions - k) (omega (arith, taken))
+    padded-is positions (take k e) (positions - k) (omega (arith, taken))
     ∙ ap (λ (m : List ℕ). take k e ++ m) (ap (λ (j : ℕ). replicate j 0) (sym left) ∙ sym (all-zero _ z))
     ∙ sym (take-add k (positions - k) e)
     ∙ ap (λ (j : ℕ). take j e) all
@@ -88,8 +88,8 @@ row-back n d long h =
     let (l, f) = both figured in
     let short : k ≤ positions = at-most l in
     let many : length log ≡ k = length-map (take k e) _ ∙ length-take-le k e (omega (arith, length-drop 6 d)) in
-    let room : padded 64 (terms log) ≡ take 64 e =
-    ap (padded 64) (terms-entries (take k e)) ∙ room-back k e short (omega (arith, length-drop 6 d)) (rw (drop-drop k 6 d) beyond) in
+    let room : padded positions (terms log) ≡ take positions e =
+    ap (padded positions) (terms-entries (take k e)) ∙ room-back k e short (omega (arith, length-drop 6 d)) (rw (drop-drop k 6 d) beyond) in
     record {
       laid =
           ap₂ (λ (x : ℕ) (m : List ℕ). getD d 0 0 ∷ getD d 1 0 ∷ getD d 2 0 ∷ getD d 3 0 ∷ getD d 4 0 ∷ x ∷ m) many room ∙ sym (six d long);
@@ -109,7 +109,7 @@ rows-pass n (suc k) (s ∷ ss) h t =
     together {a = soundRow n (row s ++ rows k ss)} (row-passes n s (rows k ss) here)
     (rw (drop-at (row s) (rows k ss) rowWords (length-row s)) (rows-pass n k ss (omega arith) rest))
 
-next-rows : (m : ℕ) (l : List ℕ) → drop (rowWords * m) (drop 70 l) ≡ drop (rowWords * suc m) l
+next-rows : (m : ℕ) (l : List ℕ) → drop (rowWords * m) (drop rowWords l) ≡ drop (rowWords * suc m) l
 next-rows m l =
     let more : rowWords + rowWords * m ≡ rowWords * suc m = omega arith in
     drop-drop (rowWords * m) rowWords l ∙ ap (λ (j : ℕ). drop j l) more
@@ -129,16 +129,16 @@ rows-back n zero (suc m) d e h t z = absurd (omega arith)
 rows-back n (suc k) (suc m) d e h t z =
     let (here, rest) = both {a = soundRow n d} t in
     let first = row-back n d (omega arith) here in
-    let (laid, sound) = rows-back n k m (drop 70 d) (omega (arith, length-drop 70 d)) (omega arith) rest (rw (next-rows m d) z) in
-    (ap₂ _++_ (first .laid) laid ∙ take-append-drop 70 d, together {a = soundServer n (serverOf d)} (first .sound) sound)
+    let (laid, sound) = rows-back n k m (drop rowWords d) (omega (arith, length-drop rowWords d)) (omega arith) rest (rw (next-rows m d) z) in
+    (ap₂ _++_ (first .laid) laid ∙ take-append-drop rowWords d, together {a = soundServer n (serverOf d)} (first .sound) sound)
 
 -- ---- the table
 
 -- what stands behind the rows of n servers
-past-rows : (n : ℕ) (c : List ℕ) → length c ≡ tableWords → part c (rowWords * n + rowWords) (rowWords * mostServers - rowWords * n) ≡ drop (rowWords * n) (drop 70 c)
+past-rows : (n : ℕ) (c : List ℕ) → length c ≡ tableWords → part c (rowWords * n + rowWords) (rowWords * mostServers - rowWords * n) ≡ drop (rowWords * n) (drop rowWords c)
 past-rows n c e =
     rw (add-comm (rowWords * n) rowWords, ← drop-drop (rowWords * n) rowWords c)
-    (take-all (rowWords * mostServers - rowWords * n) (drop (rowWords * n) (drop 70 c)) (simp length-drop (omega arith)))
+    (take-all (rowWords * mostServers - rowWords * n) (drop (rowWords * n) (drop rowWords c)) (simp length-drop (omega arith)))
 
 pub words-pass : {t : Table} → SoundTable t → Passes (soundWords (count t) (layout t))
 unfolding soundWords layout every
@@ -146,46 +146,46 @@ words-pass {t} s =
     let n = count t in
     let top = head n (t .marks) in
     let all = rows mostServers (t .servers) in
-    let under : drop 70 (layout t) ≡ all = drop-at top all 70 (length-head n (t .marks)) in
+    let under : drop rowWords (layout t) ≡ all = drop-at top all rowWords (length-head n (t .marks)) in
     let spare : Passes (every (between 0 0) (part (layout t) 1 5)) = record { yes = tt } in
-    let marks : Passes (every (between 0 ceiling) (part (layout t) 6 64)) =
+    let marks : Passes (every (between 0 ceiling) (part (layout t) 6 positions)) =
     rw (marks-back t (s .full)) (subst Passes (marks-sound (t .marks)) (s .marks)) in
-    let servers : Passes (soundRows n n (drop 70 (layout t))) = rw under (rows-pass n mostServers (t .servers) (s .few) (s .servers)) in
+    let servers : Passes (soundRows n n (drop rowWords (layout t))) = rw under (rows-pass n mostServers (t .servers) (s .few) (s .servers)) in
     let beyond : Passes (every (between 0 0) (part (layout t) (rowWords * n + rowWords) (rowWords * mostServers - rowWords * n))) =
     rw (past-rows n (layout t) (length-layout t), under) (beyond-pass mostServers (t .servers) (s .few)) in
     together (together (together spare marks) servers) beyond
 
 -- the first row of words whose five figures after the first are 0
-top-back : (c : List ℕ) → rowWords ≤ length c → Passes (every (between 0 0) (part c 1 5)) → take 70 c ≡ head (getD c 0 0) (take 64 (drop 6 c))
+top-back : (c : List ℕ) → rowWords ≤ length c → Passes (every (between 0 0) (part c 1 5)) → take rowWords c ≡ head (getD c 0 0) (take positions (drop 6 c))
 unfolding every
 top-back c h z =
-    let none : Passes (every (between 0 0) (take 0 (drop 64 (drop 6 c)))) = record { yes = tt } in
+    let none : Passes (every (between 0 0) (take 0 (drop positions (drop 6 c)))) = record { yes = tt } in
     let five : take 5 (drop 1 c) ≡ replicate 5 0 =
     all-zero (part c 1 5) z ∙ ap (λ (j : ℕ). replicate j 0) (length-take-le 5 (drop 1 c) (omega (arith, length-drop 1 c))) in
-    let room : take 64 (drop 6 c) ≡ padded 64 (take 64 (drop 6 c)) = sym (room-back 64 (drop 6 c) (omega arith) (omega (arith, length-drop 6 c)) none) in
+    let room : take positions (drop 6 c) ≡ padded positions (take positions (drop 6 c)) = sym (room-back positions (drop 6 c) (omega arith) (omega (arith, length-drop 6 c)) none) in
     take-add 1 69 c
-    ∙ ap₂ _++_ (take-suc c 0 0 (omega arith)) (take-add 5 64 (drop 1 c) ∙ ap₂ _++_ five (ap (take 64) (drop-drop 5 1 c) ∙ room))
+    ∙ ap₂ _++_ (take-suc c 0 0 (omega arith)) (take-add 5 positions (drop 1 c) ∙ ap₂ _++_ five (ap (take positions) (drop-drop 5 1 c) ∙ room))
 
 length-servers : (n : ℕ) (d : List ℕ) → length (serversOf n d) ≡ n
 unfolding serversOf
 length-servers zero d = refl
-length-servers (suc n) d = ap suc (length-servers n (drop 70 d))
+length-servers (suc n) d = ap suc (length-servers n (drop rowWords d))
 
 pub words-back : (n : ℕ) (c : List ℕ) → length c ≡ tableWords → n ≡ getD c 0 0 → 1 ≤ n → n ≤ mostServers → Passes (soundWords n c)
     → (layout (tableOf c) ≡ c) × SoundTable (tableOf c)
 unfolding soundWords layout tableOf
 words-back n c e first some few h =
-    let d = drop 70 c in
-    let ms = take 64 (drop 6 c) in
+    let d = drop rowWords c in
+    let ms = take positions (drop 6 c) in
     let (rest, beyond) = both {a = every (between 0 0) (part c 1 5) && every (between 0 ceiling) ms && soundRows n n d} h in
     let (top, tested) = both {a = every (between 0 0) (part c 1 5) && every (between 0 ceiling) ms} rest in
     let (five, low) = both {a = every (between 0 0) (part c 1 5)} top in
     let (laid, sound) = rows-back n mostServers n d (simp length-drop (omega arith)) few tested (rw (← past-rows n c e) beyond) in
     let counted : length (serversOf (getD c 0 0) d) ≡ getD c 0 0 = length-servers (getD c 0 0) d in
-    let many : length ms ≡ positions = length-take-le 64 (drop 6 c) (omega (arith, length-drop 6 c)) in (
+    let many : length ms ≡ positions = length-take-le positions (drop 6 c) (omega (arith, length-drop 6 c)) in (
       ap (λ (k : ℕ). head k ms ++ rows mostServers (serversOf (getD c 0 0) d)) counted
           ∙ ap₂ _++_ (sym (top-back c (omega arith) five)) (ap (λ (k : ℕ). rows mostServers (serversOf k d)) (sym first) ∙ laid)
-          ∙ take-append-drop 70 c,
+          ∙ take-append-drop rowWords c,
       record {
         some = omega (arith, counted);
         few = omega (arith, counted);

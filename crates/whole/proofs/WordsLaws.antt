@@ -73,7 +73,7 @@ module _ (b : List ℕ) (n : ℕ) (first : n ≡ getD (words b) 0 0) where
       whole-by : Passes (soundWords n (words b)) → Passes (whole b)
       whole-by h =
           let (laid, s) = words-back n (words b) size first (omega arith) few h in
-          whole-table b sized (bytes-words b 1190 sized bytewise) laid s
+          whole-table b sized (bytes-words b tableWords sized bytewise) laid s
 
       by-whole : Passes (whole b) → Passes (soundWords n (words b))
       by-whole h =
