@@ -1,14 +1,16 @@
 -- What a loop over a list of actions reads from what it finds: that it stays within the list, that its place grows, and where it ends. Assumes nothing.
-use Prim.Native.Nat.{ℕ, _+_, _-_, _≤_, _<_}
-use mathlib.Core.Path.{_≡_, refl, subst}
+use Prim.Native.Nat.{ℕ, _+_, _-_, _≤_, _<_, min}
+use mathlib.Core.Path.{_≡_, refl, sym, _∙_, subst}
 use mathlib.Core.List.{List}
 use native.Mathlib.Decide.{decLe}
 use native.Mathlib.Omega.{arith}
 use borrow.Author.Tests.{le-leb, lt-leb}
 use lib.ListN.{length}
+use denote.Ref.{RefT}
+use Rattle.walk.specs.declared.Walk.{Walk}
 use Rattle.walk.specs.declared.Found.{Found}
 use Rattle.walk.specs.declared.Found.the-variants.{Action, Cut, End}
-use Rattle.walk.specs.Plan.{foundAt}
+use Rattle.walk.specs.Plan.{foundAt, placeBehind, behind}
 
 pub record Whole (p : List ℕ) (at e : ℕ) : Type 0 where
   pub inside : at < length p
@@ -52,3 +54,23 @@ end-found p at h = of (subst (Stands p at) h (stands p at))
   where
     of : Stands p at End → length p ≤ at
     of (none l) = l
+
+-- a loop that moves on from a place within the list stays there, and comes to the end
+pub behind-is : (p : List ℕ) (at : ℕ) → at ≤ length p → behind p at ≡ min (at + 8) (length p)
+unfolding behind
+behind-is p at l = of (stands p at)
+  where
+    of : {f : Found} → Stands p at f → placeBehind at f ≡ min (at + 8) (length p)
+    of (whole m) = omega arith
+    of (cut m s) = omega arith
+    of (none m) = omega arith
+
+pub behind-within : (p : List ℕ) (at : ℕ) → at ≤ length p → behind p at ≤ length p
+behind-within p at l = omega (arith, behind-is p at l)
+
+pub behind-grows : (p : List ℕ) (at : ℕ) → at < length p → at < behind p at
+behind-grows p at l = omega (arith, behind-is p at (omega arith))
+
+-- two walks over one list at one place are one walk
+pub walk-unique : {v w : Walk} {s : RefT (List ℕ)} {n : ℕ} → (v .actions ≡ s) × (v .at ≡ n) → (w .actions ≡ s) × (w .at ≡ n) → v ≡ w
+walk-unique (a, b) (c, d) = λ i. record { actions = (a ∙ sym c) i; at = (b ∙ sym d) i }

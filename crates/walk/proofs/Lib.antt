@@ -1,3 +1,4 @@
--- The laws of the places in a list of actions.
+-- The laws of the places in a list of actions, and what the walks by hand share.
 pub mod Laws
-pub mod Passed
+mod Promises
+mod Thin
