@@ -18,7 +18,7 @@ use Rattle.algorithm.specs.Comparisons.{held}
 use Rattle.algorithm.specs.Actions.{sameTerm, someMarked, holdsMarked, holdsCommitted, supportsAt}
 use Rattle.table.specs.Layout.{tableIn}
 use Rattle.table.specs.Slice.{Held}
-use Rattle.questions.specs.Marks.{narrowedAt, narrowedPast}
+use Rattle.questions.specs.Questions.{narrowedAt, narrowedPast}
 
 -- ---- some position is marked
 

@@ -8,7 +8,7 @@ ghost use Rattle.algorithm.specs.Actions.{sameTerm, someMarked, holdsCommitted}
 ghost use Rattle.words.specs.Lists.{part};
 ghost use Rattle.table.specs.Layout.{tableIn};
 ghost use Rattle.table.specs.Slice.{Held, Within};
-ghost use Rattle.questions.specs.Marks.{narrowedAt, narrowedPast};
+ghost use Rattle.questions.specs.Questions.{narrowedAt, narrowedPast};
 use crate::shares::supporters;
 use algorithm::Position;
 use algorithm::term_is;

@@ -1,14 +1,13 @@
 // The members of a set that share what server i has.
 ghost use mathlib.Core.Bool.{_&&_};
 ghost use mathlib.Core.Path.{_≡_};
-ghost use Prim.Native.Nat.{_+_, _≤_, _<_, _^_};
+ghost use Prim.Native.Nat.{_+_, _≤_};
 ghost use Rattle.members.specs.Members.{bit, passing};
 ghost use Rattle.algorithm.specs.Table.{count, positions};
 ghost use Rattle.algorithm.specs.Actions.{supportsAt};
 ghost use Rattle.table.specs.Layout.{tableIn};
 ghost use Rattle.table.specs.Slice.{Held, Within};
-ghost use Rattle.questions.specs.Questions.{Shared};
-ghost use Rattle.questions.specs.Turns.{Compared};
+ghost use Rattle.questions.specs.Questions.{alike};
 use algorithm::Position;
 use comparisons::same_config;
 use comparisons::same_term;
@@ -26,8 +25,8 @@ fn compare(o: Shares, t: &[u8], i: usize, q: u16, k: usize) -> Shares
     requires { ⌜ Held (now t) ⌝ }
     requires { ⌜ Within (now t) i ⌝ }
     requires { ⌜ Within (now t) (k + 1) ⌝ }
-    requires { ⌜ (o .config < 2 ^ k) × (o .term < 2 ^ k) ⌝ }
-    ensures { λ r. ⌜ Compared (tableIn (now (t .entry))) i q k o r ⌝ }
+    requires { ⌜ o ≡ alike (tableIn (now t)) i q k ⌝ }
+    ensures { λ r. ⌜ r ≡ alike (tableIn (now (t .entry))) i q (k + 1) ⌝ }
 {
     if (q >> k) % 2 == 1 {
         let s = k + 1;
@@ -42,7 +41,7 @@ fn compare(o: Shares, t: &[u8], i: usize, q: u16, k: usize) -> Shares
 pub fn sharing(t: &[u8], i: usize, q: u16) -> Shares
     requires { ⌜ Held (now t) ⌝ }
     requires { ⌜ Within (now t) i ⌝ }
-    ensures { λ r. ⌜ Shared (tableIn (now (t .entry))) i q r ⌝ }
+    ensures { λ r. ⌜ r ≡ alike (tableIn (now (t .entry))) i q (count (tableIn (now (t .entry)))) ⌝ }
 {
     let n = count_of(t) as usize;
     let mut o = Shares { config: 0, term: 0 };

@@ -1,9 +1,10 @@
 // What the members of a set have against an election.
-ghost use Prim.Native.Nat.{_+_, _<_, _^_};
+ghost use mathlib.Core.Path.{_≡_};
+ghost use Prim.Native.Nat.{_+_};
+ghost use Rattle.algorithm.specs.Table.{count};
 ghost use Rattle.table.specs.Layout.{tableIn};
 ghost use Rattle.table.specs.Slice.{Held, Within};
-ghost use Rattle.questions.specs.Questions.{Objected};
-ghost use Rattle.questions.specs.Turns.{Heard};
+ghost use Rattle.questions.specs.Questions.{objecting};
 use comparisons::larger_term;
 use comparisons::log_ahead;
 use comparisons::newer_config;
@@ -22,8 +23,8 @@ fn hear(o: Objections, t: &[u8], i: usize, q: u16, k: usize) -> Objections
     requires { ⌜ Held (now t) ⌝ }
     requires { ⌜ Within (now t) i ⌝ }
     requires { ⌜ Within (now t) (k + 1) ⌝ }
-    requires { ⌜ (o .larger < 2 ^ k) × (o .newer < 2 ^ k) × (o .ahead < 2 ^ k) ⌝ }
-    ensures { λ r. ⌜ Heard (tableIn (now (t .entry))) i q k o r ⌝ }
+    requires { ⌜ o ≡ objecting (tableIn (now t)) i q k ⌝ }
+    ensures { λ r. ⌜ r ≡ objecting (tableIn (now (t .entry))) i q (k + 1) ⌝ }
 {
     if (q >> k) % 2 == 1 {
         let s = k + 1;
@@ -39,7 +40,7 @@ fn hear(o: Objections, t: &[u8], i: usize, q: u16, k: usize) -> Objections
 pub fn poll(t: &[u8], i: usize, q: u16) -> Objections
     requires { ⌜ Held (now t) ⌝ }
     requires { ⌜ Within (now t) i ⌝ }
-    ensures { λ r. ⌜ Objected (tableIn (now (t .entry))) i q r ⌝ }
+    ensures { λ r. ⌜ r ≡ objecting (tableIn (now (t .entry))) i q (count (tableIn (now (t .entry)))) ⌝ }
 {
     let n = count_of(t) as usize;
     let mut o = Objections {

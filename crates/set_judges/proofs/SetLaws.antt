@@ -1,25 +1,50 @@
 -- How the servers that pass decide a refusal. Assumes nothing.
 use Prim.Native.Nat.{ℕ, _≤_}
 use native.Mathlib.Omega.{arith}
-use mathlib.Core.Path.{_≡_}
-use mathlib.Core.Bool.{Bool, false, not, _||_, _&&_}
+use mathlib.Core.Path.{_≡_, sym, ap, _∙_}
+use mathlib.Core.Bool.{Bool, true, false, not, _||_, _&&_}
 use mathlib.Core.List.{[], _∷_}
 use lib.Dec.{eqb, ltb}
 use lib.ListN.{length}
-use lib.Bits.{bitAnd}
-use Rattle.members.specs.Members.{oneApart, majority, passing, allPass}
+use Rattle.members.specs.Members.{oneApart, majority, passing, allPass, somePass}
 use Rattle.algorithm.specs.Table.{Log, Table, count, server, mark}
 use Rattle.algorithm.specs.Comparisons.{last}
-use Rattle.algorithm.specs.Actions.{supportsAt}
+use Rattle.algorithm.specs.Actions.{largerTerm, newerConfig, logAhead, sameTerm, someMarked, holdsCommitted, q1, q2, p1, supportsAt}
+use Rattle.questions.specs.declared.votes.Objections.{Objections}
+use Rattle.questions.specs.declared.shares.Shares.{Shares}
+use Rattle.questions.specs.Questions.{objecting, alike}
 use Rattle.words.proofs.RefusalLaws.{judging}
 
--- some member of q passes
-pub some-told : (x q k : ℕ) → x ≡ bitAnd q k → ltb 0 x ≡ ltb 0 (bitAnd q k)
-some-told x q k e = rw e
+-- some member of q objects to an election
+module _ (t : Table) (i q : ℕ) (o : Objections) (e : o ≡ objecting t i q (count t)) where
+  pub larger-told : ltb 0 (o .larger) ≡ somePass (count t) (largerTerm t i) q
+  larger-told = ap (λ (u : Objections). ltb 0 (u .larger)) e
 
--- those of the set m that pass, where the code has read m
-pub most-told : (x m s k : ℕ) → x ≡ bitAnd m k → m ≡ s → (r : Bool) → r ≡ majority x m → r ≡ majority (bitAnd s k) s
-most-told x m s k e f r g = rw (← f, ← e) g
+  pub newer-told : ltb 0 (o .newer) ≡ somePass (count t) (newerConfig t i) q
+  newer-told = ap (λ (u : Objections). ltb 0 (u .newer)) e
+
+  pub ahead-told : ltb 0 (o .ahead) ≡ somePass (count t) (logAhead t i) q
+  ahead-told = ap (λ (u : Objections). ltb 0 (u .ahead)) e
+
+-- those of the set m that are alike, where the code has read m
+module _ (t : Table) (i m : ℕ) (o : Shares) (e : o ≡ alike t i m (count t)) (f : m ≡ server t i .config .set) where
+  pub config-told : (r : Bool) → r ≡ majority (o .config) m → r ≡ q1 t i
+  config-told r g = rw (← f) (g ∙ ap (λ (u : Shares). majority (u .config) m) e)
+
+  pub term-told : (r : Bool) → r ≡ majority (o .term) m → r ≡ q2 t i
+  term-told r g = rw (← f) (g ∙ ap (λ (u : Shares). majority (u .term) m) e)
+
+  pub term-alike : o .term ≡ passing (count t) (sameTerm t i) (server t i .config .set)
+  term-alike = rw (← f) (ap (λ (u : Shares). u .term) e)
+
+-- P1: a majority of those that hold what is marked is asked for where some mark is of the term
+module _ (t : Table) (i : ℕ) (s : Bool) (e : s ≡ someMarked (t .marks) (server t i .term)) where
+  pub safe-told : (x : ℕ) (r : Bool) → s ≡ true → x ≡ passing (count t) (holdsCommitted t i) (server t i .config .set)
+      → r ≡ majority x (server t i .config .set) → r ≡ p1 t i
+  safe-told x r o f g = rw (sym e ∙ o, ← f) g
+
+  pub unsafe-told : s ≡ false → false ≡ p1 t i
+  unsafe-told o = rw (sym e ∙ o)
 
 -- every member of q holds the last entry of server i: they are its supporters there
 pub all-told : (t : Table) (i q p x : ℕ) → x ≡ passing (count t) (supportsAt t i p) q → p ≡ length (server t i .log) → eqb x q ≡ allPass (count t) (supportsAt t i (length (server t i .log))) q
@@ -49,4 +74,4 @@ pub otherwise-told : (t : Table) (x y p q c : ℕ) (r : Bool) → r ≡ eqb x y 
 otherwise-told t x y p q c r o e f g = rw (o, e, f, g)
 
 -- what finds the first refusal from tests on sets
-pub ruleset weighing = (judging, some-told, most-told, all-told)
+pub ruleset weighing = (judging, larger-told, newer-told, ahead-told, config-told, term-told, all-told)

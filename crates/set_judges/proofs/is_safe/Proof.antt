@@ -1,8 +1,7 @@
 -- `set_judges::is_safe` meets its contract. Assumes nothing.
 use borrow.Author.Needs.{needs}
-use Rattle.questions.proofs.MaskLaws.{and-then, and-not}
 use Rattle.questions.proofs.MarkLaws.{marked-any}
-use Rattle.set_judges.proofs.SetLaws.{most-told}
+use Rattle.set_judges.proofs.SetLaws.{safe-told, unsafe-told}
 use Rattle.set_judges.proofs.is_safe.Statement.{statement}
 use Rattle.set_judges.proofs.is_safe.Tie as tie
 
@@ -16,10 +15,10 @@ is-majority-of-requires : tie.Need-is-majority-of-requires
 is-majority-of-requires c κs = search needs
 
 returns : tie.Need-returns
-returns c = search (needs, and-then, most-told, marked-any)
+returns c = search (needs, safe-told, marked-any)
 
 returns-2 : tie.Need-returns-2
-returns-2 c = search (needs, and-not, marked-any)
+returns-2 c = search (needs, unsafe-told, marked-any)
 
 pub is-safe-spec : {M : Type 1} → statement M
 is-safe-spec =

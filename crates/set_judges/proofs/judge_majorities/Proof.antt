@@ -1,6 +1,6 @@
 -- `set_judges::judge_majorities` meets its contract. Assumes nothing.
 use borrow.Author.Needs.{needs}
-use Rattle.set_judges.proofs.SetLaws.{weighing}
+use Rattle.set_judges.proofs.SetLaws.{weighing, term-alike}
 use Rattle.set_judges.proofs.judge_majorities.Statement.{statement}
 use Rattle.set_judges.proofs.judge_majorities.Tie as tie
 
@@ -23,7 +23,7 @@ returns-2 : tie.Need-returns-2
 returns-2 c = search weighing depth 9
 
 is-safe-requires : tie.Need-is-safe-requires
-is-safe-requires c κs = (search needs, (search needs, cc))
+is-safe-requires c κs = (search needs, (search needs, search term-alike))
 
 returns-3 : tie.Need-returns-3
 returns-3 c = search weighing depth 9

@@ -3,7 +3,7 @@ use Prim.Native.Nat.{_-_, _≤_}
 use mathlib.Core.Path.{_≡_}
 use borrow.Author.Needs.{needs}
 use Rattle.table.specs.Layout.{tableIn}
-use Rattle.questions.specs.Marks.{narrowedPast}
+use Rattle.questions.specs.Questions.{narrowedPast}
 use Rattle.questions.proofs.MarkLaws.{past-unmarked, past-none, past-next, past-all}
 use Rattle.questions.proofs.marks.narrowed.Statement.{statement}
 use Rattle.questions.proofs.marks.narrowed.Tie as tie

@@ -1,6 +1,6 @@
 -- `questions::shares::member_supports` meets its contract. Assumes nothing.
 use borrow.Author.Needs.{needs}
-use Rattle.questions.proofs.ServerLaws.{asked, unasked}
+use Rattle.questions.proofs.LoopLaws.{asked, unasked}
 use Rattle.questions.proofs.shares.member_supports.Statement.{statement}
 use Rattle.questions.proofs.shares.member_supports.Tie as tie
 

@@ -1,40 +1,18 @@
 -- `questions::shares::sharing` meets its contract. The loop's invariant: o has those of the servers 1 to k. Assumes nothing.
 use Prim.Native.Nat.{_-_}
 use borrow.Author.Needs.{needs}
+use Rattle.algorithm.specs.Table.{count}
 use Rattle.table.specs.Layout.{tableIn}
-use Rattle.questions.proofs.LoopLaws.{Comparing, comparing-none, config-fits, term-fits, comparing-next, comparing-all}
+use Rattle.questions.specs.Questions.{alike}
+use Rattle.questions.proofs.LoopLaws.{Turned, alike-none, alike-all}
 use Rattle.questions.proofs.shares.sharing.Statement.{statement}
 use Rattle.questions.proofs.shares.sharing.Tie as tie
 
 abbrev Inv-loop : tie.InvT-loop
-Inv-loop t i q n o₀ k₀ o k = Comparing (tableIn t) i q n k o
+Inv-loop t i q n o₀ k₀ o k = Turned (alike (tableIn t) i q) (count (tableIn t)) n k o
 
 abbrev μ-loop : tie.MeasureT-loop
 μ-loop t i q n o₀ k₀ o k = n - k
-
-count-of-requires : tie.Need-count-of-requires Inv-loop μ-loop
-count-of-requires c κs = search needs
-
-cast-n : tie.Need-cast-n Inv-loop μ-loop
-cast-n c = search needs
-
-loop-holds : tie.Need-loop-holds Inv-loop μ-loop
-loop-holds c = search (needs, comparing-none)
-
-compare-requires : tie.Need-compare-requires Inv-loop μ-loop
-compare-requires c κs = (search needs, (search needs, (search needs, (search (needs, config-fits), search (needs, term-fits)))))
-
-add-k : tie.Need-add-k Inv-loop μ-loop
-add-k c = search needs
-
-loop-less : tie.Need-loop-less Inv-loop μ-loop
-loop-less c = search needs
-
-loop-again : tie.Need-loop-again Inv-loop μ-loop
-loop-again c = search (needs, comparing-next)
-
-returns : tie.Need-returns Inv-loop μ-loop
-returns c = search (needs, comparing-all)
 
 pub sharing-spec : {M : Type 1} → statement M
 sharing-spec =
@@ -42,11 +20,11 @@ sharing-spec =
     (tie.spec
     Inv-loop
     μ-loop
-    count-of-requires
-    cast-n
-    loop-holds
-    compare-requires
-    add-k
-    loop-less
-    loop-again
-    returns)
+    (λ c κs. search needs)
+    (λ c. search needs)
+    (λ c. search (needs, alike-none))
+    (λ c κs. (search needs, (search needs, (search needs, c .before .loop .inv .is))))
+    (λ c. search needs)
+    (λ c. search needs)
+    (λ c. search needs)
+    (λ c. search (needs, alike-all)))
