@@ -4,22 +4,28 @@ ARCHIVE = target/staticlib/libkyntulei.a
 REHEARSE = target/bin/rehearse
 SAVE = target/bin/save
 COUNT = 2000
+CRATES =
 
-.PHONY: help test edits demo soak c-tests rehearsals bench archive programs
+.PHONY: help test edits demo soak c-tests contracts rehearsals bench archive programs
 
 help:
-	@echo "make test       the gate: proves every crate from nothing, tries the must-fail edits, runs every test"
-	@echo "make edits      tries every must-fail edit, those that are beyond the gate's time too"
-	@echo "make demo       builds the programs and rehearses one evening in front of you"
-	@echo "make soak       compares the programs with the plain one on COUNT=$(COUNT) inputs drawn from SEED=1"
-	@echo "make c-tests    the tests in C alone, over the archive of the exported functions"
-	@echo "make bench      instructions an action, beside the engine in plain C"
+	@echo "make test        the gate: proves every crate from nothing, tries the edits under must-fail, runs every test"
+	@echo "make edits       tries all must-fail edits, those under must-fail-more too (half an hour), or those of CRATES='one other'"
+	@echo "make demo        builds the programs and rehearses one evening in front of you"
+	@echo "make soak        compares the programs with the plain one on COUNT=$(COUNT) inputs drawn from SEED=1"
+	@echo "make rehearsals  the same on the gate's 200 inputs"
+	@echo "make c-tests     the tests in C alone, over the archive of the exported functions"
+	@echo "make contracts   whether what the pages name is there: contracts, laws, edits, places, links"
+	@echo "make bench       instructions of an action and of the other calls, on x86-64 their time too, beside plain C"
+	@echo "make programs    target/bin/rehearse and target/bin/save"
+	@echo "make archive     target/staticlib/libkyntulei.a, for C to link with include/kyntulei.h"
 
 test:
 	@tests/gate
 
 edits:
-	@tests/edits
+	@tests/need
+	@tests/edits $(CRATES)
 
 demo: programs
 	@sed 's/^/    /' tests/sites/whole.txt
@@ -33,6 +39,10 @@ soak:
 
 c-tests: archive
 	@$(MAKE) --no-print-directory -C tests test ENGINE=$(abspath $(ARCHIVE))
+
+contracts:
+	@tests/need
+	@tests/contracts
 
 rehearsals: programs
 	@$(MAKE) --no-print-directory -C tests rehearsals PROGRAM=$(abspath $(REHEARSE)) SAVE=$(abspath $(SAVE))

@@ -1,16 +1,21 @@
-/* Kyntulei: judges and plays steps of a replicated store's configuration protocol on a table of 1 to 16 servers.
+/* Kyntulei: judges and plays steps of a replicated store's configuration protocol on a table of up to 16 servers.
  *
- * Four kinds of byte slice pass through these functions. Each is a pointer with a length, may stand at any address
- * (no alignment is asked), and must not overlap another slice of the same call. Where a length is 0 the pointer is
- * not followed and may be NULL. Nothing is kept between calls: the table slice is the whole state.
+ * WHAT THE CALLER KEEPS. The functions are proved for every content and every length of what is lent, and take on
+ * trust only what C cannot show them:
+ *   - a pointer is valid for the length given beside it, for writing too where it is not const; where that length is
+ *     0 it is not followed and may be NULL. It may stand at any address: no alignment is asked
+ *   - slices lent to one call do not overlap
+ *   - `end` points to a number of its own, aligned as C aligns it, outside every slice of the call
+ *   - while a call lasts, no other thread is at what it was lent, but to read what is const
+ * Nothing is kept between calls: the table slice is the whole state, and calls on different slices may run at once.
  *
  * THE TABLE SLICE is 17 rows of 70 unsigned words of 4 bytes, low byte first: 4,760 bytes.
  *   Row 0:                  word 0       n, the number of servers, 1 to 16
  *                           words 1..5   0
- *                           words 6..69  the marks of positions 1..64: the term committed there, or 0
+ *                           words 6..69  the marks of positions 1..64: a committed term, or 0
  *   Row s, for server s:    word 0       role: 0 secondary, 1 primary
  *                           word 1       term, up to 1,000,000,000; a primary's is at least 1
- *                           word 2       set of its configuration: not empty, server s is bit s-1, no bit above n
+ *                           word 2       set of its configuration: not empty, bit s-1 for server s, no bit above n
  *                           word 3       version of its configuration, 1 to 1,000,000,000
  *                           word 4       term of its configuration, up to 1,000,000,000
  *                           word 5       number of entries in its log, up to 64
@@ -18,12 +23,12 @@
  *   Rows past n are 0. Marks go up to 1,000,000,000. A slice of any other length or contents is a broken table.
  *
  * THE TABLE IMAGE is a table in fewer bytes, as a file carries it; kyntulei_read makes the slice of it, and
- * kyntulei_write makes it of the slice. Numbers are low byte first here, too.
+ * kyntulei_write makes it of the slice. Here, too, the low byte of a number leads.
  *   Bytes 0..3              the letters SITE
  *   Byte 4                  n, 1 to 16
  *   Bytes 5..7              0
- *   Bytes 8..11+4n          the contents: n+1 entries, the first for the marks and then one for each server in order.
- *                           An entry is 2 bytes of offset, where the body starts in the image, and 2 bytes of length
+ *   Bytes 8..11+4n          the contents: an entry for the marks and behind it one for every server, n+1 in all. An
+ *                           entry is 2 bytes of offset, where the body starts in the image, and 2 bytes of length
  *   From byte 12+4n         the bodies, in the order of their entries and without gaps
  *   The marks' body:        4 bytes for each position from 1 on; 0 to 64 positions, and the last one's mark is not 0
  *   A server's body:        byte 0         role
@@ -35,10 +40,16 @@
  *                           from byte 16   the log's entries, 0 to 64 of 4 bytes each
  *   The figures are those of the table slice, within the same bounds. The longest image has 4,684 bytes.
  *
- * AN ACTION is 8 bytes: kind, i, j, 0, low byte of the set, high byte of the set, 0, 0. What a kind does not name
- * below has to be 0.
- *   1 elect i by set           2 reconfigure i to set      3 send i's configuration to j   4 spread i's term to j
- *   5 write at i               6 fetch to i from j         7 roll back i against j         8 commit at i by set
+ * AN ACTION has its kind in byte 0, server i in byte 1, server j in byte 2 and a set in bytes 4 and 5, low byte
+ * first, of 8 bytes in all. Bytes 3, 6 and 7, and what a kind does not name below, have to be 0.
+ *   1 elect        i, set   i leads, if the servers in set vote for it
+ *   2 reconfigure  i, set   i's configuration gets the new set
+ *   3 send         i, j     j takes over i's configuration
+ *   4 spread       i, j     j hears of i's term
+ *   5 write        i        i's log grows by an entry
+ *   6 fetch        i, j     i's log takes over the next entry of j's
+ *   7 roll back    i, j     i's log, held against j's, loses an entry
+ *   8 commit       i, set   i's last entry is marked, if the servers in set have it
  *
  * REPLIES. 0 says taken. Any other number is a refusal, the table then keeps every byte it had; of several grounds
  * the one with the smallest number is named.
@@ -57,9 +68,10 @@
  *   11  the counter that has to grow is at 1,000,000,000: i's term (elect), i's version (reconfigure)
  *   12  reconfigure: the new set leaves i out
  *   13  reconfigure: old and new set do not differ in exactly one server
- *   14  reconfigure: no majority of i's set shares i's version and configuration term
- *   15  reconfigure: no majority of i's set is at i's term
- *   16  reconfigure: no mark carries i's term, or no majority of i's set is at i's term and holds all those marked
+ *   14  reconfigure: not more than half of i's set share the version and the term of i's configuration
+ *   15  reconfigure: not more than half of i's set are at i's term
+ *   16  reconfigure: nothing is marked with i's term, or not more than half of i's set are at that term and have
+ *       all that is marked so
  *   17  send: i's configuration is not newer than j's
  *   18  spread: i's term is not larger than j's
  *   19  write: i's log has its 64 entries
@@ -101,9 +113,9 @@ uint32_t kyntulei_step(uint8_t *table, size_t table_len, const uint8_t *action, 
 /* Plays `actions` in order, 8 bytes at a time, and writes the reply to each, one byte, into `replies`. A refused
  * action leaves the table as it was and the run continues with the next. Answers how many replies were written.
  *
- * If actions_len is not a multiple of 8, the 1 to 7 bytes left over count as one more piece, replied to with 2. If
- * the table is broken, table_len other than kyntulei_table_bytes() included, every piece is replied to with 1 and
- * the table is not altered.
+ * If actions_len is not a multiple of 8, the shorter rest counts as one more piece, replied to with 2. If the table
+ * is broken, table_len other than kyntulei_table_bytes() included, every piece is replied to with 1 and the table is
+ * not altered.
  *
  * The room in `replies` decides where a run stops: after replies_len pieces the rest is neither played nor replied
  * to. One reply for each piece needs (actions_len + 7) / 8 bytes; replies_len 0 plays nothing, and in a longer
@@ -122,9 +134,8 @@ uint64_t kyntulei_run(uint8_t *table, size_t table_len, const uint8_t *actions, 
  *   33  image_len ends within the contents or within a body; or an offset is not where the body before it ends (12+4n
  *       for the marks); or the marks' length is not 4 times 0 to 64, or a server's not 16 more than such a number
  *   34  a figure is out of its bounds, byte 1 of a server's body is not 0, or the last mark is 0
- * All contents and all bodies' ends come before any figure: 33 wherever it applies, and else 34.
- *
- * `end` must point to a number of its own, even where 1 to 34 is expected. */
+ * All contents and all bodies' ends come before any figure: 33 wherever it applies, and else 34. `end` must be valid
+ * even where 1 to 34 is expected. */
 uint32_t kyntulei_read(const uint8_t *image, size_t image_len, uint8_t *table, size_t table_len, uint64_t *end);
 
 /* Writes the image of `table` to the start of `buffer`, and sets *end to its length; the bytes of `buffer` from there on
@@ -134,8 +145,7 @@ uint32_t kyntulei_read(const uint8_t *image, size_t image_len, uint8_t *table, s
  * Answers 0 when written. Otherwise neither `buffer` nor *end is written, and the answer is, asked in this order:
  *    1  the table is broken, table_len other than kyntulei_table_bytes() included
  *   35  buffer_len is less than the image's length; 4,684 bytes are enough for any table
- *
- * `end` must point to a number of its own, even where 1 or 35 is expected. */
+ * `end` must be valid even where 1 or 35 is expected. */
 uint32_t kyntulei_write(const uint8_t *table, size_t table_len, uint8_t *buffer, size_t buffer_len, uint64_t *end);
 
 #ifdef __cplusplus
