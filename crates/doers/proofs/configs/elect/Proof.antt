@@ -11,13 +11,16 @@ row-of-requires : tie.Need-row-of-requires
 row-of-requires c κs = search needs
 
 add-term : tie.Need-add-term
-add-term c = omega (arith, ap (λ (a : Row). a .term .0) (c .before .row-of .ensures))
+add-term c = omega (arith, ap (λ (a : Row). a .figures .term .0) (c .before .row-of .ensures .0))
 
 vote-requires : tie.Need-vote-requires
 vote-requires c κs = search needs
 
 put-standing-requires : tie.Need-put-standing-requires
 put-standing-requires c κs = search needs
+
+cast-put-config : tie.Need-cast-put-config
+cast-put-config c = search needs
 
 put-config-requires : tie.Need-put-config-requires
 put-config-requires c κs = search needs
@@ -36,6 +39,7 @@ elect-spec =
     add-term
     vote-requires
     put-standing-requires
+    cast-put-config
     put-config-requires
     same-length
     returns)
