@@ -66,11 +66,12 @@ pub fn elect(t: &mut [u8], i: usize, q: u16)
     requires { ⌜ within q (count (tableIn (now t))) ≡ true ⌝ }
     ensures { λ _. ⌜ Holds (now (t .exit)) (electAfter (tableIn (now (t .entry))) i q) ⌝ }
 {
-    let a = row_of(t, i).figures;
-    let term = a.term.0 + 1;
+    let a = row_of(t, i);
+    let term = a.figures.term.0 + 1;
+    let set = a.figures.set as u16;
     vote(t, q, Term(term));
     put_standing(t, i, PRIMARY, Term(term));
-    put_config(t, i, a.set as u16, a.version, Term(term));
+    put_config(t, i, set, a.figures.version, Term(term));
 }
 
 pub fn reconfigure(t: &mut [u8], i: usize, m: u16)
@@ -79,9 +80,9 @@ pub fn reconfigure(t: &mut [u8], i: usize, m: u16)
     requires { ⌜ server (tableIn (now t)) i .config .version < ceiling ⌝ }
     ensures { λ _. ⌜ Holds (now (t .exit)) (reconfigureAfter (tableIn (now (t .entry))) i m) ⌝ }
 {
-    let a = row_of(t, i).figures;
-    let version = a.version.0 + 1;
-    put_config(t, i, m, Version(version), a.config);
+    let a = row_of(t, i);
+    let version = a.figures.version.0 + 1;
+    put_config(t, i, m, Version(version), a.figures.config);
 }
 
 pub fn send(t: &mut [u8], i: usize, j: usize)
@@ -90,8 +91,8 @@ pub fn send(t: &mut [u8], i: usize, j: usize)
     requires { ⌜ Within (now t) j ⌝ }
     ensures { λ _. ⌜ Holds (now (t .exit)) (sendAfter (tableIn (now (t .entry))) i j) ⌝ }
 {
-    let a = row_of(t, i).figures;
-    put_config(t, j, a.set as u16, a.version, a.config);
+    let a = row_of(t, i);
+    put_config(t, j, a.figures.set as u16, a.figures.version, a.figures.config);
 }
 
 pub fn spread(t: &mut [u8], i: usize, j: usize)
@@ -100,6 +101,6 @@ pub fn spread(t: &mut [u8], i: usize, j: usize)
     requires { ⌜ Within (now t) j ⌝ }
     ensures { λ _. ⌜ Holds (now (t .exit)) (spreadAfter (tableIn (now (t .entry))) i j) ⌝ }
 {
-    let a = row_of(t, i).figures;
-    step_down(t, j, a.term);
+    let a = row_of(t, i);
+    step_down(t, j, a.figures.term);
 }
