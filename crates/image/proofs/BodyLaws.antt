@@ -57,7 +57,7 @@ unfolding every
 entries-sound [] = refl
 entries-sound (x ∷ l) = ap (λ (r : Bool). soundEntry (record { term = x }) && r) (entries-sound l)
 
-pub server-tells : (b : List ℕ) (n : ℕ) (f : Figures) (r e : Bool) → Sized b → f ≡ figuresOf (serverIn b) → r ≡ soundServer n (figured f [])
+pub server-tells : (b : List ℕ) (n : ℕ) (f : Figures) (r e : Bool) → Sized 1 b → f ≡ figuresOf (serverIn b) → r ≡ soundServer n (figured f [])
     → e ≡ every (between 1 ceiling) (part (words b) 4 (length b / 4 - 4)) → (eqb (getD b 1 0) 0 && r && e) ≡ soundServerBody n b
 server-tells b n f r e h hf hr he =
     let s = serverIn b in
@@ -77,9 +77,14 @@ module _ (im : List ℕ) (e at z : ℕ) (ha : at ≡ offset im e) (hz : z ≡ st
       let long : stop im e - offset im e ≡ size im e = omega arith in
       rw (ha, hz, long)
 
-  pub length-part : Names im e → length (take (z - at) (drop at im)) ≡ size im e
-  length-part h =
-      rw part-body (length-take-le (size im e) (drop (offset im e) im) (omega (arith, length-drop (offset im e) im, h .within)))
+  pub part-sized : Names im e → Sized e (take (z - at) (drop at im))
+  part-sized h =
+      let long = length-take-le (size im e) (drop (offset im e) im) (omega (arith, length-drop (offset im e) im, h .within)) in
+      rw part-body (record { least = omega (arith, h .least); most = omega (arith, h .most) })
+
+pub server-sized : (e : ℕ) (b : List ℕ) → Sized e b → 1 ≤ e → Sized 1 b
+server-sized zero b h l = absurd (omega arith)
+server-sized (suc e) b h l = record { least = h .least; most = h .most }
 
 module _ (im : List ℕ) where
   pub marks-at : (e : ℕ) (b : List ℕ) (r : Bool) → b ≡ body im e → e < 1 → r ≡ soundMarksBody b → r ≡ soundAt im e
@@ -90,14 +95,13 @@ module _ (im : List ℕ) where
   server-at zero b r p z h = absurd (omega arith)
   server-at (suc e) b r p z h = rw p at h
 
-  pub server-sized : (e : ℕ) (b : List ℕ) → length b ≡ size im e → 1 ≤ e → Names im e → Sized b
-  server-sized zero b l z h = absurd (omega arith)
-  server-sized (suc e) b l z h = record { least = omega (arith, h .least); most = omega (arith, h .most) }
-
   -- ---- all of them
 
   pub name-at : (n e : ℕ) → Named im → n ≡ countIn im → e ≤ n → Names im e
   name-at n e h c l = h .each e (omega arith)
+
+  pub name-next : (n k : ℕ) → Named im → n ≡ countIn im → k < n → Names im (k + 1)
+  name-next n k h c l = h .each (k + 1) (omega arith)
 
   pub bodies-tell : (n e : ℕ) (ok : Bool) → n ≡ countIn im → e ≤ n + 1 → n < e → Tested (soundAt im) e ok → ok ≡ soundBodies im
   unfolding soundBodies

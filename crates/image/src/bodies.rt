@@ -2,9 +2,7 @@
 // sees nothing else.
 ghost use mathlib.Core.Path.{_≡_};
 ghost use Prim.Native.Nat.{_<_};
-ghost use lib.ListN.{length};
 ghost use Rattle.table.specs.Figures.{figuresOf};
-ghost use Rattle.image.specs.Contents.{size};
 ghost use Rattle.image.specs.Bodies.{body, serverIn, soundMarksBody, soundServerBody, soundAt, soundBodies};
 ghost use Rattle.image.specs.Asked.{Names, Named, Sized};
 use crate::contents::count_of;
@@ -22,7 +20,7 @@ use words::word;
 
 pub fn body_of(image: &[u8], e: usize) -> &[u8]
     requires { ⌜ Names (now image) e ⌝ }
-    ensures { λ r. ⌜ (now r ≡ body (now (image .entry)) e) × (length (now r) ≡ size (now (image .entry)) e) ⌝ }
+    ensures { λ r. ⌜ (now r ≡ body (now (image .entry)) e) × Sized e (now r) ⌝ }
 {
     let at = offset_of(image, e);
     let stop = stop_of(image, e);
@@ -42,7 +40,7 @@ fn marks_sound(b: &[u8]) -> bool
 }
 
 pub fn figures_of(b: &[u8]) -> Figures
-    requires { ⌜ Sized (now b) ⌝ }
+    requires { ⌜ Sized 1 (now b) ⌝ }
     ensures { λ r. ⌜ (r ≡ figuresOf (serverIn (now (b .entry)))) × (r .set < 65536) ⌝ }
 {
     Figures {
@@ -55,7 +53,7 @@ pub fn figures_of(b: &[u8]) -> Figures
 }
 
 fn server_sound(b: &[u8], n: u8) -> bool
-    requires { ⌜ Sized (now b) ⌝ }
+    requires { ⌜ Sized 1 (now b) ⌝ }
     ensures { λ r. ⌜ r ≡ soundServerBody n (now (b .entry)) ⌝ }
 {
     let spare = b[1];

@@ -1,11 +1,11 @@
 -- `image::bodies::body_of` meets its contract. Assumes nothing.
 use borrow.Author.Needs.{needs}
-use Rattle.image.proofs.BodyLaws.{part-body, length-part}
+use Rattle.image.proofs.BodyLaws.{part-body, part-sized}
 use Rattle.image.proofs.bodies.body_of.Statement.{statement}
 use Rattle.image.proofs.bodies.body_of.Tie as tie
 
 returns : tie.Need-returns
-returns c = (search (needs, part-body), search (needs, length-part))
+returns c = (search (needs, part-body), search (needs, part-sized))
 
 pub body-of-spec : {M : Type 1} → statement M
 body-of-spec =
