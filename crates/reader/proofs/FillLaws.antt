@@ -7,7 +7,7 @@ use mathlib.Core.List.{List, [], _∷_, _++_, append-nil}
 use lib.ListN.{length, getD, set, take, drop, replicate, length-append, length-map, length-replicate}
 use lib.Seq.{take-all, length-take-le, getD-drop, set-at, getD-at, append-snoc}
 use Rattle.words.specs.Lists.{nth, replace}
-use Rattle.algorithm.specs.Table.{Config, Log, entries, Server, Table, absent, server, withServer, changed, withMark, withRole, withTerm, withConfig, withLog, withEntry}
+use Rattle.algorithm.specs.Table.{Config, Log, entries, Server, Table, absent, server, withServer, changed, withMark, withRole, withTerm, withConfig, withLog, withEntry, positions}
 use Rattle.words.specs.Words.{words}
 use Rattle.words.proofs.WordLaws.{length-words}
 use Rattle.table.specs.Figures.{figuresOf, figured}
@@ -52,7 +52,7 @@ module _ (b₀ b d : List ℕ) (s : ℕ) where
       record { became = stays h (λ i. record { servers = empty i; marks = t .marks }) }
 
   module _ (k : ℕ) (g : Logged b₀ b s d k) (w : Within b₀ s) where
-    pub log-room : k < length d / 4 - 4 → Sized 1 d → length (server (tableIn b) s .log) < 64
+    pub log-room : k < length d / 4 - 4 → Sized 1 d → length (server (tableIn b) s .log) < positions
     log-room h z =
         let l = drop 4 (words d) in
         let t = tableIn b₀ in
@@ -97,7 +97,7 @@ server-filled b b₁ b₂ d s f w p e q =
 
 -- the first k marks of the body d are put
 pub record Marking (b₀ b d : List ℕ) (k : ℕ) : Type 0 where
-  pub became : Became b₀ b (withMarks (padded 64 (take k (words d))) (tableIn b₀))
+  pub became : Became b₀ b (withMarks (padded positions (take k (words d))) (tableIn b₀))
 
 padded-more : (n : ℕ) (w : List ℕ) (k : ℕ) → k < n → k < length w → set (padded n (take k w)) k (getD w k 0) ≡ padded n (take (suc k) w)
 unfolding padded
@@ -107,7 +107,7 @@ padded-more (suc n) (x ∷ w) zero h l = refl
 padded-more (suc n) (x ∷ w) (suc k) h l = ap (λ (m : List ℕ). x ∷ m) (padded-more n w k (omega arith) (omega arith))
 
 module _ (b₀ b d : List ℕ) where
-  pub marks-none : Held b → tableIn b .marks ≡ replicate 64 0 → Marking b b d 0
+  pub marks-none : Held b → tableIn b .marks ≡ replicate positions 0 → Marking b b d 0
   unfolding padded
   marks-none h e = record { became = stays h (λ i. record { servers = tableIn b .servers; marks = e i }) }
 
@@ -116,9 +116,9 @@ module _ (b₀ b d : List ℕ) where
         → Became b b' (withMark (tableIn b) (k + 1) v) → Marking b₀ b' d (k + 1)
     unfolding replace
     marks-more b' v h l e c =
-        let P = padded 64 (take k (words d)) in
-        let longer : replace P (k + 1) v ≡ padded 64 (take (k + 1) (words d)) =
-        rw (e, add-one) (padded-more 64 (words d) k (omega (arith, l .most)) (omega (arith, length-words d))) in
+        let P = padded positions (take k (words d)) in
+        let longer : replace P (k + 1) v ≡ padded positions (take (k + 1) (words d)) =
+        rw (e, add-one) (padded-more positions (words d) k (omega (arith, l .most)) (omega (arith, length-words d))) in
         record {
           became =
               subst (λ (m : List ℕ). Became b₀ b' (withMarks m (tableIn b₀))) longer (onward (λ x. withMark x (k + 1) v) (g .became) c);
@@ -189,7 +189,7 @@ module _ (im b : List ℕ) (n : ℕ) (e : n ≡ countIn im) where
 pub marks-named : (im : List ℕ) → Named im → Names im 0
 marks-named im h = h .each 0 (omega arith)
 
-pub blank-marks : (b : List ℕ) (n : ℕ) → Holds b (blank n) → tableIn b .marks ≡ replicate 64 0
+pub blank-marks : (b : List ℕ) (n : ℕ) → Holds b (blank n) → tableIn b .marks ≡ replicate positions 0
 blank-marks b n h = ap (λ (t : Table). t .marks) (its-table h)
 
 pub marks-unread : (im b b' d : List ℕ) → Holds b (blank (countIn im)) → d ≡ body im 0 → Became b b' (withMarks (marksIn d) (tableIn b))

@@ -10,11 +10,12 @@ use borrow.Author.Tests.{lt-ltb, le-ltb, eq-eqb, ne-eqb, not-false}
 use Rattle.words.proofs.Tests.{Passes, both, refuted, equal, at-most, three}
 use Rattle.words.specs.Lists.{every}
 use Rattle.words.specs.Refusal.{first}
+use Rattle.algorithm.specs.Table.{positions, mostServers}
 use Rattle.words.proofs.RefusalLaws.{first-later}
 use Rattle.table.specs.Layout.{tableBytes, stored}
 use Rattle.table.specs.Slice.{Holds}
 use Rattle.table.proofs.StoredLaws.{held-stored}
-use Rattle.image.specs.Contents.{opened, countIn, counted, offset, size, stop, start, fixed, mayHave, laid, laidOut}
+use Rattle.image.specs.Contents.{opened, countIn, counted, offset, size, stop, firstBody, start, fixed, mayHave, laid, laidOut}
 use Rattle.image.specs.Bodies.{soundBodies}
 use Rattle.reader.specs.Reader.{readRefusals, readReply, readTable, readEnd, readBytes, endAfter}
 use Rattle.image.specs.Asked.{Names, Named}
@@ -58,16 +59,16 @@ module _ (im slice : List ℕ) where
 
 -- ---- an image that is laid out
 
-names : (im : List ℕ) (e : ℕ) → 12 + 4 * e ≤ length im → Passes (laid im e) → Names im e
+names : (im : List ℕ) (e : ℕ) → firstBody e ≤ length im → Passes (laid im e) → Names im e
 names im e room h =
     let v = size im e in
     let (place, sized, within) = three (eqb (offset im e) (start im e)) (mayHave e v) (leb (stop im e) (length im)) (h .yes) in
-    let (least, most, whole) = three (leb (fixed e) v) (leb v (fixed e + 256)) (eqb (v % 4) 0) sized in
+    let (least, most, whole) = three (leb (fixed e) v) (leb v (fixed e + 4 * positions)) (eqb (v % 4) 0) sized in
     record {
       there = room;
       within = leb→le (stop im e) (length im) within;
       least = leb→le (fixed e) v least;
-      most = leb→le v (fixed e + 256) most;
+      most = leb→le v (fixed e + 4 * positions) most;
     }
 
 named : (im : List ℕ) → Passes (laidOut im) → Named im
@@ -85,7 +86,7 @@ named-by im l e h = named im (record { yes = rw (← e, not-false l h) tt })
 pub record Readable (im slice : List ℕ) : Type 0 where
   pub sized : length slice ≡ tableBytes
   pub some : 1 ≤ countIn im
-  pub few : countIn im ≤ 16
+  pub few : countIn im ≤ mostServers
   pub named : Named im
   pub sound : Passes (soundBodies im)
 
@@ -101,7 +102,7 @@ module _ (im slice : List ℕ) (k : ℕ) (e : k ≡ readReply im slice) where
     pub read-sized : length slice ≡ tableBytes
     read-sized = readable im slice (sym e ∙ h) .sized
 
-    pub read-few : countIn im ≤ 16
+    pub read-few : countIn im ≤ mostServers
     read-few = readable im slice (sym e ∙ h) .few
 
     pub read-named : Named im
