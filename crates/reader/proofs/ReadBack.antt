@@ -2,11 +2,13 @@
 use Prim.Native.Nat.{ℕ, zero, suc, _+_, _*_, _%_, _≤_, _<_}
 use native.Mathlib.Omega.{arith}
 use mathlib.Core.Path.{_≡_, refl, ap, sym, subst, _∙_}
-use mathlib.Core.Bool.{Bool, false, not, _&&_}
+use mathlib.Core.Bool.{false, _&&_}
 use mathlib.Core.List.{List, [], _∷_, _++_, append-assoc, map, flatten}
 use lib.Dec.{leb, eqb}
 use lib.ListN.{length, getD, take, length-append, length-map, List·getD-map}
 use lib.Seq.{take-suc, take-length}
+use borrow.Author.Tests.{le-ltb, eq-eqb}
+use Rattle.words.specs.Refusal.{first}
 use Rattle.words.proofs.Tests.{Passes, together, is-equal, is-at-most, is-true}
 use Rattle.algorithm.specs.Table.{Server, Table, absent, count, ceiling, positions, soundServer, broken, trimmed}
 use Rattle.words.specs.Lists.{nth, every, between}
@@ -23,12 +25,8 @@ use Rattle.image.specs.Image.{opening, marksBody, serverBody, bodies, contents,
 use Rattle.image.specs.Bodies.{body, marksIn, serverIn, soundMarksBody, soundServerBody, soundAt, soundBodies}
 use Rattle.reader.specs.Reader.{serversTo, readReply, readTable, readEnd}
 use Rattle.words.proofs.BelowLaws.{below-all}
-use Rattle.reader.proofs.ReplyLaws.{reply-0}
 use Rattle.image.proofs.ImageLaws.{place, place-last, place-most, joined, length-joined, length-contents, joined-offset, joined-size, joined-stop, joined-body}
 use Rattle.reader.proofs.BodyBack.{length-trimmed, length-body, marks-back, marks-pass, server-back, server-pass}
-
-passed : {b : Bool} → Passes b → not b ≡ false
-passed {b} h = rw (is-true b (h .yes))
 
 -- bodies have room for their places in two bytes
 servers-short : (ss : List Server) → AllRoomy ss → length (flatten (map serverBody ss)) ≤ (figureBytes + 4 * positions) * length ss
@@ -148,11 +146,16 @@ module _ (t : Table) (h : broken t ≡ false) where
     all-sound = below-all (count t + 1) (soundAt im) sound-body
 
     number : (slice : List ℕ) → length slice ≡ tableBytes → readReply im slice ≡ 0
+    unfolding readReply first
     number slice e =
         let some : Passes (counted im) = together {a = leb 1 (count t)} (is-at-most (rules .some)) (is-at-most (rules .few)) in
-        sym
-        (reply-0 im slice e (omega (arith, long)) (opened im) refl refl (counted im) refl (passed some)
-        (laidOut im) refl (passed laid-out) (soundBodies im) refl (passed all-sound))
+        rw (
+          eq-eqb (length slice) tableBytes e,
+          le-ltb (length im) 8 (omega (arith, long)),
+          is-true (counted im) (some .yes),
+          is-true (laidOut im) (laid-out .yes),
+          is-true (soundBodies im) (all-sound .yes),
+        )
 
     -- ---- what is read
 
