@@ -30,21 +30,21 @@ standing-put b b₁ b₂ s role v w h k = then-put (withTerm v (server (tableIn 
 -- ---- what is put of a row that was read
 
 module _ (b b' : List ℕ) (i : ℕ) (a : Row) (e : a ≡ seen (server (tableIn b) i)) where
-  pub spread-put : (j : ℕ) → Became b b' (withServer (tableIn b) j (steppedDown (a .term .0) (server (tableIn b) j)))
+  pub spread-put : (j : ℕ) → Became b b' (withServer (tableIn b) j (steppedDown (a .figures .term .0) (server (tableIn b) j)))
       → Holds b' (spreadAfter (tableIn b) i j)
   spread-put j h = rw e at (h .holds)
 
   pub send-put : (j : ℕ)
-      → Became b b' (withServer (tableIn b) j (withConfig (record { set = a .set; version = a .version .0; term = a .config .0 }) (server (tableIn b) j)))
+      → Became b b' (withServer (tableIn b) j (withConfig (record { set = a .figures .set; version = a .figures .version .0; term = a .figures .config .0 }) (server (tableIn b) j)))
       → Holds b' (sendAfter (tableIn b) i j)
   send-put j h = rw e at (h .holds)
 
   pub reconfigure-put : (m : ℕ)
-      → Became b b' (withServer (tableIn b) i (withConfig (record { set = m; version = a .version .0 + 1; term = a .config .0 }) (server (tableIn b) i)))
+      → Became b b' (withServer (tableIn b) i (withConfig (record { set = m; version = a .figures .version .0 + 1; term = a .figures .config .0 }) (server (tableIn b) i)))
       → Holds b' (reconfigureAfter (tableIn b) i m)
   reconfigure-put m h = rw e at (h .holds)
 
-  pub write-put : Became b b' (withServer (tableIn b) i (withEntry (entry (a .term .0)) (server (tableIn b) i)))
+  pub write-put : Became b b' (withServer (tableIn b) i (withEntry (entry (a .figures .term .0)) (server (tableIn b) i)))
       → Holds b' (writeAfter (tableIn b) i)
   write-put h = rw e at (h .holds)
 
@@ -53,7 +53,7 @@ module _ (b b' : List ℕ) (i : ℕ) (a : Row) (e : a ≡ seen (server (tableIn 
       → Holds b' (fetchAfter (tableIn b) i j)
   fetch-put j v f h = rw (f, e) at (h .holds)
 
-  pub commit-put : (q : ℕ) → Became b b' (withMark (tableIn b) (a .length .0) (a .term .0)) → Holds b' (commitAfter (tableIn b) i q)
+  pub commit-put : (q : ℕ) → Became b b' (withMark (tableIn b) (a .length .0) (a .figures .term .0)) → Holds b' (commitAfter (tableIn b) i q)
   commit-put q h = rw e at (h .holds)
 
 -- ---- the last position of a log that was read

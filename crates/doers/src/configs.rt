@@ -67,10 +67,11 @@ pub fn elect(t: &mut [u8], i: usize, q: u16)
     ensures { λ _. ⌜ Holds (now (t .exit)) (electAfter (tableIn (now (t .entry))) i q) ⌝ }
 {
     let a = row_of(t, i);
-    let term = a.term.0 + 1;
+    let term = a.figures.term.0 + 1;
+    let set = a.figures.set as u16;
     vote(t, q, Term(term));
     put_standing(t, i, PRIMARY, Term(term));
-    put_config(t, i, a.set, a.version, Term(term));
+    put_config(t, i, set, a.figures.version, Term(term));
 }
 
 pub fn reconfigure(t: &mut [u8], i: usize, m: u16)
@@ -80,8 +81,8 @@ pub fn reconfigure(t: &mut [u8], i: usize, m: u16)
     ensures { λ _. ⌜ Holds (now (t .exit)) (reconfigureAfter (tableIn (now (t .entry))) i m) ⌝ }
 {
     let a = row_of(t, i);
-    let version = a.version.0 + 1;
-    put_config(t, i, m, Version(version), a.config);
+    let version = a.figures.version.0 + 1;
+    put_config(t, i, m, Version(version), a.figures.config);
 }
 
 pub fn send(t: &mut [u8], i: usize, j: usize)
@@ -91,7 +92,13 @@ pub fn send(t: &mut [u8], i: usize, j: usize)
     ensures { λ _. ⌜ Holds (now (t .exit)) (sendAfter (tableIn (now (t .entry))) i j) ⌝ }
 {
     let a = row_of(t, i);
-    put_config(t, j, a.set, a.version, a.config);
+    put_config(
+        t,
+        j,
+        a.figures.set as u16,
+        a.figures.version,
+        a.figures.config,
+    );
 }
 
 pub fn spread(t: &mut [u8], i: usize, j: usize)
@@ -101,5 +108,5 @@ pub fn spread(t: &mut [u8], i: usize, j: usize)
     ensures { λ _. ⌜ Holds (now (t .exit)) (spreadAfter (tableIn (now (t .entry))) i j) ⌝ }
 {
     let a = row_of(t, i);
-    step_down(t, j, a.term);
+    step_down(t, j, a.figures.term);
 }

@@ -19,7 +19,7 @@ pub fn write(t: &mut [u8], i: usize)
     ensures { λ _. ⌜ Holds (now (t .exit)) (writeAfter (tableIn (now (t .entry))) i) ⌝ }
 {
     let a = row_of(t, i);
-    push(t, i, a.term);
+    push(t, i, a.figures.term);
 }
 
 pub fn fetch(t: &mut [u8], i: usize, j: usize)
@@ -53,5 +53,5 @@ pub fn commit(t: &mut [u8], i: usize)
     ensures { λ _. ⌜ ((q : ℕ) → Holds (now (t .exit)) (commitAfter (tableIn (now (t .entry))) i q)) ⌝ }
 {
     let a = row_of(t, i);
-    put_mark(t, a.length, a.term);
+    put_mark(t, a.length, a.figures.term);
 }

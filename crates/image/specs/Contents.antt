@@ -4,8 +4,7 @@ use mathlib.Core.Bool.{Bool, _&&_}
 use mathlib.Core.List.{List}
 use lib.Dec.{leb, eqb}
 use lib.ListN.{length, getD}
-use Rattle.words.specs.Lists.{between}
-use Rattle.words.specs.Lists.{allBelow}
+use Rattle.words.specs.Lists.{between, allBelow}
 use Rattle.words.specs.Words.{halfAt}
 use Rattle.algorithm.specs.Table.{positions, soundCount}
 
@@ -53,10 +52,14 @@ abbrev pub start : List ℕ → ℕ → ℕ
 start im zero = firstBody (countIn im)
 start im (suc e) = stop im e
 
+-- the length of a server's body before its log
+abbrev pub figureBytes : ℕ
+figureBytes = 16
+
 -- the length of body e before its log or its marks
 abbrev pub fixed : ℕ → ℕ
 fixed zero = 0
-fixed (suc s) = 16
+fixed (suc s) = figureBytes
 
 -- body e may be v bytes long: its fixed part, and four bytes for each of 0 to 64 entries or marks
 abbrev pub mayHave : ℕ → ℕ → Bool

@@ -1,18 +1,31 @@
-// Whether the bodies' fields keep the rules. A body is the part of the image that its entry names: what judges it sees nothing else.
+// The bodies of an image, and whether their fields keep the rules. A body is the part of the image that its entry names: what judges it
+// sees nothing else.
 ghost use mathlib.Core.Path.{_≡_};
-ghost use Rattle.image.specs.Bodies.{serverIn, soundMarksBody, soundServerBody, soundAt, soundBodies};
-ghost use Rattle.image.specs.Asked.{Names, Named, Sized, figuresOf};
+ghost use Prim.Native.Nat.{_<_};
+ghost use Rattle.table.specs.Figures.{figuresOf};
+ghost use Rattle.image.specs.Bodies.{body, serverIn, soundMarksBody, soundServerBody, soundAt, soundBodies};
+ghost use Rattle.image.specs.Asked.{Names, Named, Sized};
 use crate::contents::count_of;
 use crate::contents::offset_of;
 use crate::contents::stop_of;
 use algorithm::CEILING;
 use algorithm::Term;
 use algorithm::Version;
+use table::figures::Figures;
 use table::figures::figures_sound;
 use words::all_between;
 use words::half;
 use words::wide;
 use words::word;
+
+pub fn body_of(image: &[u8], e: usize) -> &[u8]
+    requires { ⌜ Names (now image) e ⌝ }
+    ensures { λ r. ⌜ (now r ≡ body (now (image .entry)) e) × Sized e (now r) ⌝ }
+{
+    let at = offset_of(image, e);
+    let stop = stop_of(image, e);
+    &image[at..stop]
+}
 
 fn marks_sound(b: &[u8]) -> bool
     ensures { λ r. ⌜ r ≡ soundMarksBody (now (b .entry)) ⌝ }
@@ -26,35 +39,25 @@ fn marks_sound(b: &[u8]) -> bool
     ok & (1 <= last)
 }
 
-// A server's figures, all but its log.
-pub struct Figures {
-    pub role: u32,
-    pub term: Term,
-    pub set: u16,
-    pub version: Version,
-    pub config: Term,
-}
-
 pub fn figures_of(b: &[u8]) -> Figures
-    requires { ⌜ Sized (now b) ⌝ }
-    ensures { λ r. ⌜ r ≡ figuresOf (serverIn (now (b .entry))) ⌝ }
+    requires { ⌜ Sized 1 (now b) ⌝ }
+    ensures { λ r. ⌜ (r ≡ figuresOf (serverIn (now (b .entry)))) × (r .set < 65536) ⌝ }
 {
     Figures {
         role: wide(b[0]),
         term: Term(word(b, 1)),
-        set: half(b, 2),
+        set: half(b, 2) as u32,
         version: Version(word(b, 2)),
         config: Term(word(b, 3)),
     }
 }
 
 fn server_sound(b: &[u8], n: u8) -> bool
-    requires { ⌜ Sized (now b) ⌝ }
+    requires { ⌜ Sized 1 (now b) ⌝ }
     ensures { λ r. ⌜ r ≡ soundServerBody n (now (b .entry)) ⌝ }
 {
     let spare = b[1];
-    let f = figures_of(b);
-    let figures = figures_sound(f.role, f.term, f.set as u32, f.version, f.config, n);
+    let figures = figures_sound(figures_of(b), n);
     let entries = all_between(b, 4, b.len() / 4 - 4, 1, CEILING);
     (spare == 0) & figures & entries
 }
@@ -63,13 +66,11 @@ fn body_sound(image: &[u8], e: usize) -> bool
     requires { ⌜ Names (now image) e ⌝ }
     ensures { λ r. ⌜ r ≡ soundAt (now (image .entry)) e ⌝ }
 {
-    let at = offset_of(image, e);
-    let stop = stop_of(image, e);
+    let b = body_of(image, e);
     if 1 <= e {
-        let n = image[4];
-        return server_sound(&image[at..stop], n);
+        return server_sound(b, image[4]);
     }
-    marks_sound(&image[at..stop])
+    marks_sound(b)
 }
 
 // Whether the fields of every body keep the rules.

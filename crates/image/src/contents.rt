@@ -1,10 +1,20 @@
 // An image's opening and its contents: entry 0 is for the marks, entry s for server s.
 ghost use mathlib.Core.Path.{_≡_};
-ghost use Prim.Native.Nat.{_+_, _*_, _≤_, _<_};
+ghost use Prim.Native.Nat.{_≤_, _<_};
 ghost use lib.ListN.{length};
-ghost use Rattle.image.specs.Contents.{opened, countIn, counted, offset, size, stop, start, fixed, mayHave, laid, laidOut};
+ghost use Rattle.image.specs.Contents.{opened, countIn, counted, offset, size, stop, firstBody, start, figureBytes, fixed, mayHave, laid, laidOut};
+use algorithm::POSITIONS;
 use words::half;
 use words::wide;
+
+// The most servers that a table has.
+pub const MOST_SERVERS: u8 = 16;
+
+// The length of a server's body before its log.
+pub const FIGURE_BYTES: usize = 16;
+
+// The length of the longest log, and of the most marks.
+const LOG_BYTES: usize = 4 * POSITIONS as usize;
 
 // How many servers the opening says.
 pub fn count_of(image: &[u8]) -> usize
@@ -32,18 +42,26 @@ pub fn is_counted(image: &[u8]) -> bool
     ensures { λ r. ⌜ r ≡ counted (now (image .entry)) ⌝ }
 {
     let n = image[4];
-    (1 <= n) & (n <= 16)
+    (1 <= n) & (n <= MOST_SERVERS)
+}
+
+// Where the first body of an image of n servers begins.
+pub fn first_body(n: usize) -> usize
+    requires { ⌜ n < 256 ⌝ }
+    ensures { λ r. ⌜ r ≡ firstBody n ⌝ }
+{
+    12 + 4 * n
 }
 
 pub fn offset_of(image: &[u8], e: usize) -> usize
-    requires { ⌜ 12 + 4 * e ≤ length (now image) ⌝ }
+    requires { ⌜ firstBody e ≤ length (now image) ⌝ }
     ensures { λ r. ⌜ (r ≡ offset (now (image .entry)) e) × (r < 65536) ⌝ }
 {
     half(image, 8 + 4 * e) as usize
 }
 
 pub fn size_of(image: &[u8], e: usize) -> usize
-    requires { ⌜ 12 + 4 * e ≤ length (now image) ⌝ }
+    requires { ⌜ firstBody e ≤ length (now image) ⌝ }
     ensures { λ r. ⌜ (r ≡ size (now (image .entry)) e) × (r < 65536) ⌝ }
 {
     half(image, 10 + 4 * e) as usize
@@ -51,48 +69,38 @@ pub fn size_of(image: &[u8], e: usize) -> usize
 
 // Where body e ends.
 pub fn stop_of(image: &[u8], e: usize) -> usize
-    requires { ⌜ 12 + 4 * e ≤ length (now image) ⌝ }
+    requires { ⌜ firstBody e ≤ length (now image) ⌝ }
     ensures { λ r. ⌜ r ≡ stop (now (image .entry)) e ⌝ }
 {
     offset_of(image, e) + size_of(image, e)
 }
 
-// Where body e has to begin.
-fn start_of(image: &[u8], e: usize) -> usize
-    requires { ⌜ 12 + 4 * e ≤ length (now image) ⌝ }
-    ensures { λ r. ⌜ r ≡ start (now (image .entry)) e ⌝ }
-{
-    if e == 0 {
-        return 12 + 4 * count_of(image);
-    }
-    stop_of(image, e - 1)
-}
-
 // The length of body e before its log or its marks.
 fn fixed_of(e: usize) -> usize
-    ensures { λ r. ⌜ (r ≡ fixed e) × (r ≤ 16) ⌝ }
+    ensures { λ r. ⌜ (r ≡ fixed e) × (r ≤ figureBytes) ⌝ }
 {
     if e == 0 {
         return 0;
     }
-    16
+    FIGURE_BYTES
 }
 
 fn may_have(e: usize, v: usize) -> bool
     ensures { λ r. ⌜ r ≡ mayHave e v ⌝ }
 {
     let least = fixed_of(e);
-    (least <= v) & (v <= least + 256) & (v % 4 == 0)
+    (least <= v) & (v <= least + LOG_BYTES) & (v % 4 == 0)
 }
 
-fn is_laid(image: &[u8], e: usize) -> bool
-    requires { ⌜ 12 + 4 * e ≤ length (now image) ⌝ }
+// Entry e names a body that begins at a place, where the one before it ends.
+fn is_laid(image: &[u8], e: usize, place: usize) -> bool
+    requires { ⌜ firstBody e ≤ length (now image) ⌝ }
+    requires { ⌜ place ≡ start (now image) e ⌝ }
     ensures { λ r. ⌜ r ≡ laid (now (image .entry)) e ⌝ }
 {
     let at = offset_of(image, e);
-    let start = start_of(image, e);
     let sized = may_have(e, size_of(image, e));
-    (at == start) & sized & (stop_of(image, e) <= image.len())
+    (at == place) & sized & (stop_of(image, e) <= image.len())
 }
 
 // Whether the contents and the extent of every body are as they have to be.
@@ -101,13 +109,15 @@ pub fn is_laid_out(image: &[u8]) -> bool
     ensures { λ r. ⌜ r ≡ laidOut (now (image .entry)) ⌝ }
 {
     let n = count_of(image);
-    if image.len() < 12 + 4 * n {
+    let mut place = first_body(n);
+    if image.len() < place {
         return false;
     }
     let mut ok = true;
     let mut e: usize = 0;
     while e <= n {
-        ok = ok & is_laid(image, e);
+        ok = ok & is_laid(image, e, place);
+        place = stop_of(image, e);
         e += 1;
     }
     ok

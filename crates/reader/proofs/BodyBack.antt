@@ -9,7 +9,7 @@ use lib.ListN.{length, length-map}
 use borrow.Author.Tests.{ne-eqb}
 use Rattle.words.proofs.Tests.{Passes, together}
 use Rattle.words.specs.Lists.{nth, every, between}
-use Rattle.algorithm.specs.Table.{Entry, entries, Server, ceiling, soundServer, kept, trimmed}
+use Rattle.algorithm.specs.Table.{Entry, entries, Server, ceiling, positions, soundServer, kept, trimmed}
 use Rattle.words.proofs.Lists.{every-cons, cons-every}
 use Rattle.algorithm.proofs.Sound.{SoundServer, server-sound}
 use Rattle.words.specs.Words.{wordOf, words}
@@ -17,6 +17,7 @@ use Rattle.words.proofs.WordLaws.{length-bytes, words-bytes, words-between}
 use Rattle.table.specs.Layout.{padded, terms}
 use Rattle.table.proofs.LayoutLaws.{entries-terms}
 use Rattle.table.proofs.SoundLaws.{words-log}
+use Rattle.image.specs.Contents.{figureBytes}
 use Rattle.image.specs.Bodies.{marksIn, serverIn, soundMarksBody, soundServerBody}
 use Rattle.image.specs.Image.{marksBody, serverBody}
 use Rattle.image.proofs.ImageLaws.{half-back}
@@ -77,7 +78,7 @@ module _ (ms : List ℕ) (low : Passes (every (between 0 ceiling) ms)) where
   words-marks : words (marksBody ms) ≡ trimmed ms
   words-marks = words-bytes (trimmed ms) (words-between 0 ceiling (omega arith) (trimmed ms) (low-trimmed ms low))
 
-  pub marks-back : length ms ≡ 64 → marksIn (marksBody ms) ≡ ms
+  pub marks-back : length ms ≡ positions → marksIn (marksBody ms) ≡ ms
   marks-back full = rw (words-marks, ← full) (padded-trimmed ms)
 
   pub marks-pass : Passes (soundMarksBody (marksBody ms))
@@ -90,7 +91,7 @@ module _ (ms : List ℕ) (low : Passes (every (between 0 ceiling) ms)) where
 abbrev numbers : Server → List ℕ
 numbers s = s .term ∷ s .config .version ∷ s .config .term ∷ terms (s .log)
 
-pub length-body : (s : Server) → length (serverBody s) ≡ 16 + 4 * length (s .log)
+pub length-body : (s : Server) → length (serverBody s) ≡ figureBytes + 4 * length (s .log)
 length-body s = omega (arith, length-bytes (numbers s), length-map (s .log) (λ (e : Entry). e .term))
 
 module _ (n : ℕ) (s : Server) (h : Passes (soundServer n s)) (small : s .config .set < 65536) where

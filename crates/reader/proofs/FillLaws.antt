@@ -7,18 +7,19 @@ use mathlib.Core.List.{List, [], _∷_, _++_, append-nil}
 use lib.ListN.{length, getD, set, take, drop, replicate, length-append, length-map, length-replicate}
 use lib.Seq.{take-all, length-take-le, getD-drop, set-at, getD-at, append-snoc}
 use Rattle.words.specs.Lists.{nth, replace}
-use Rattle.algorithm.specs.Table.{Config, entry, Log, entries, Server, Table, absent, server, withMarks, withServer, changed, withMark, withRole, withTerm, withConfig, withLog, withEntry}
+use Rattle.algorithm.specs.Table.{Config, entry, Log, entries, Server, Table, absent, server, withMarks, withServer, changed, withMark, withRole, withTerm, withConfig, withLog, withEntry, positions}
 use Rattle.words.specs.Words.{words}
 use Rattle.words.proofs.WordLaws.{length-words}
+use Rattle.table.specs.Figures.{figuresOf, figured}
+use Rattle.table.specs.declared.figures.Figures.{Figures}
 use Rattle.table.specs.Layout.{padded, tableIn}
 use Rattle.table.specs.Slice.{Holds, Held, Became, Within, blank}
 use Rattle.words.proofs.Lists.{replace-nth, nth-replaced}
 use Rattle.table.proofs.HeldLaws.{its-table, held, again}
-use Rattle.image.specs.Contents.{countIn, offset, stop}
+use Rattle.image.specs.Contents.{countIn}
 use Rattle.image.specs.Bodies.{body, marksIn, serverIn}
-use Rattle.image.specs.Asked.{Names, Named, Sized, figuresOf, withFigures}
-use Rattle.image.specs.declared.bodies.Figures.{Figures}
-use Rattle.image.proofs.BodyLaws.{length-rest, part-body}
+use Rattle.image.specs.Asked.{Names, Named, Sized}
+use Rattle.image.proofs.BodyLaws.{length-rest}
 use Rattle.reader.specs.Reader.{serversTo, readTable}
 use Rattle.reader.specs.Filling.{unread}
 
@@ -51,7 +52,7 @@ module _ (b₀ b d : List ℕ) (s : ℕ) where
       record { became = stays h (λ i. record { servers = empty i; marks = t .marks }) }
 
   module _ (k : ℕ) (g : Logged b₀ b s d k) (w : Within b₀ s) where
-    pub log-room : k < length d / 4 - 4 → Sized d → length (server (tableIn b) s .log) < 64
+    pub log-room : k < length d / 4 - 4 → Sized 1 d → length (server (tableIn b) s .log) < positions
     log-room h z =
         let l = drop 4 (words d) in
         let t = tableIn b₀ in
@@ -81,26 +82,22 @@ module _ (b₀ b d : List ℕ) (s : ℕ) where
 pub figures-put : (b b₁ b₂ b₃ : List ℕ) (s : ℕ) (f : Figures) → Within b s → Became b b₁ (changed (tableIn b) s (withRole (f .role)))
     → Became b₁ b₂ (changed (tableIn b₁) s (withTerm (f .term .0)))
     → Became b₂ b₃ (changed (tableIn b₂) s (withConfig (record { set = f .set; version = f .version .0; term = f .config .0 })))
-    → Became b b₃ (changed (tableIn b) s (withFigures f))
+    → Became b b₃ (withServer (tableIn b) s (figured f (server (tableIn b) s .log)))
 figures-put b b₁ b₂ b₃ s f w p q u =
     let C : Config = record { set = f .set; version = f .version .0; term = f .config .0 } in
     again (λ x. withTerm (f .term .0) (withRole (f .role) x)) (withConfig C) w (again (withRole (f .role)) (withTerm (f .term .0)) w p q) u
 
 pub server-filled : (b b₁ b₂ d : List ℕ) (s : ℕ) (f : Figures) → Within b s → Became b b₁ (changed (tableIn b) s (withLog (serverIn d .log)))
-    → f ≡ figuresOf (serverIn d) → Became b₁ b₂ (changed (tableIn b₁) s (withFigures f)) → Became b b₂ (withServer (tableIn b) s (serverIn d))
+    → f ≡ figuresOf (serverIn d) → Became b₁ b₂ (withServer (tableIn b₁) s (figured f (server (tableIn b₁) s .log)))
+    → Became b b₂ (withServer (tableIn b) s (serverIn d))
 server-filled b b₁ b₂ d s f w p e q =
-    subst (λ (g : Figures). Became b b₂ (changed (tableIn b) s (λ x. withFigures g (withLog (serverIn d .log) x)))) e
-    (again (withLog (serverIn d .log)) (withFigures f) w p q)
-
-pub named-filled : (im b b' : List ℕ) (s at z : ℕ) → at ≡ offset im s → z ≡ stop im s
-    → Became b b' (withServer (tableIn b) s (serverIn (take (z - at) (drop at im)))) → Became b b' (withServer (tableIn b) s (serverIn (body im s)))
-named-filled im b b' s at z ea ez c = rw (part-body im s at z ea ez) at c
+    rw e at (again (withLog (serverIn d .log)) (λ x. figured f (x .log)) w p q)
 
 -- ---- the marks
 
 -- the first k marks of the body d are put
 pub record Marking (b₀ b d : List ℕ) (k : ℕ) : Type 0 where
-  pub became : Became b₀ b (withMarks (padded 64 (take k (words d))) (tableIn b₀))
+  pub became : Became b₀ b (withMarks (padded positions (take k (words d))) (tableIn b₀))
 
 padded-more : (n : ℕ) (w : List ℕ) (k : ℕ) → k < n → k < length w → set (padded n (take k w)) k (getD w k 0) ≡ padded n (take (suc k) w)
 unfolding padded
@@ -110,18 +107,18 @@ padded-more (suc n) (x ∷ w) zero h l = refl
 padded-more (suc n) (x ∷ w) (suc k) h l = ap (λ (m : List ℕ). x ∷ m) (padded-more n w k (omega arith) (omega arith))
 
 module _ (b₀ b d : List ℕ) where
-  pub marks-none : Held b → tableIn b .marks ≡ replicate 64 0 → Marking b b d 0
+  pub marks-none : Held b → tableIn b .marks ≡ replicate positions 0 → Marking b b d 0
   unfolding padded
   marks-none h e = record { became = stays h (λ i. record { servers = tableIn b .servers; marks = e i }) }
 
   module _ (k : ℕ) (g : Marking b₀ b d k) where
-    pub marks-more : (b' : List ℕ) (v : ℕ) → k < length d / 4 → length d ≤ 256 → v ≡ getD (words d) k 0
+    pub marks-more : (b' : List ℕ) (v : ℕ) → k < length d / 4 → Sized 0 d → v ≡ getD (words d) k 0
         → Became b b' (withMark (tableIn b) (k + 1) v) → Marking b₀ b' d (k + 1)
     unfolding replace
     marks-more b' v h l e c =
-        let P = padded 64 (take k (words d)) in
-        let longer : replace P (k + 1) v ≡ padded 64 (take (k + 1) (words d)) =
-        rw (e, add-one) (padded-more 64 (words d) k (omega arith) (omega (arith, length-words d))) in
+        let P = padded positions (take k (words d)) in
+        let longer : replace P (k + 1) v ≡ padded positions (take (k + 1) (words d)) =
+        rw (e, add-one) (padded-more positions (words d) k (omega (arith, l .most)) (omega (arith, length-words d))) in
         record {
           became =
               subst (λ (m : List ℕ). Became b₀ b' (withMarks m (tableIn b₀))) longer (onward (λ x. withMark x (k + 1) v) (g .became) c);
@@ -129,10 +126,6 @@ module _ (b₀ b d : List ℕ) where
 
     pub marks-all : length d / 4 ≤ k → Became b₀ b (withMarks (marksIn d) (tableIn b₀))
     marks-all h = rw (take-all k (words d) (omega (arith, length-words d))) at (g .became)
-
-pub marks-filled : (im b b' : List ℕ) (at z : ℕ) → at ≡ offset im 0 → z ≡ stop im 0
-    → Became b b' (withMarks (marksIn (take (z - at) (drop at im))) (tableIn b)) → Became b b' (withMarks (marksIn (body im 0)) (tableIn b))
-marks-filled im b b' at z ea ez c = rw (part-body im 0 at z ea ez) at c
 
 -- ---- the servers
 
@@ -172,16 +165,16 @@ module _ (im b : List ℕ) (n : ℕ) (e : n ≡ countIn im) where
         let left : countIn im - k ≡ suc (countIn im - suc k) = omega arith in
         rw (its-table (g .holds), add-one k, left, getD-at (serversTo k im) absent (replicate (countIn im - suc k) absent) absent k (length-servers k im))
 
-    pub filled-more : (b' : List ℕ) → k < n → Became b b' (withServer (tableIn b) (k + 1) (serverIn (body im (k + 1)))) → Filled im b' (k + 1)
+    pub filled-more : (b' d : List ℕ) → k < n → d ≡ body im (k + 1) → Became b b' (withServer (tableIn b) (k + 1) (serverIn d)) → Filled im b' (k + 1)
     unfolding replace serversTo
-    filled-more b' h c =
+    filled-more b' d h p c =
         let s = serverIn (body im (suc k)) in
         let front = serversTo k im in
         let rest = replicate (countIn im - suc k) absent in
         let left : countIn im - k ≡ suc (countIn im - suc k) = omega arith in
         let next : withServer (partly im k) (k + 1) (serverIn (body im (k + 1))) ≡ partly im (k + 1) =
         rw (add-one k, left, set-at front absent rest s k (length-servers k im), append-snoc front s rest) in
-        record { within = omega arith; holds = subst (λ (t : Table). Holds b' t) next (rw (its-table (g .holds)) at (c .holds)) }
+        record { within = omega arith; holds = subst (λ (t : Table). Holds b' t) next (rw (its-table (g .holds), p) at (c .holds)) }
 
     pub filled-all : n ≤ k → Holds b (readTable im)
     filled-all h =
@@ -196,9 +189,10 @@ module _ (im b : List ℕ) (n : ℕ) (e : n ≡ countIn im) where
 pub marks-named : (im : List ℕ) → Named im → Names im 0
 marks-named im h = h .each 0 (omega arith)
 
-pub blank-marks : (b : List ℕ) (n : ℕ) → Holds b (blank n) → tableIn b .marks ≡ replicate 64 0
+pub blank-marks : (b : List ℕ) (n : ℕ) → Holds b (blank n) → tableIn b .marks ≡ replicate positions 0
 blank-marks b n h = ap (λ (t : Table). t .marks) (its-table h)
 
-pub marks-unread : (im b b' : List ℕ) → Holds b (blank (countIn im)) → Became b b' (withMarks (marksIn (body im 0)) (tableIn b)) → Holds b' (unread im)
+pub marks-unread : (im b b' d : List ℕ) → Holds b (blank (countIn im)) → d ≡ body im 0 → Became b b' (withMarks (marksIn d) (tableIn b))
+    → Holds b' (unread im)
 unfolding unread
-marks-unread im b b' h c = rw (its-table h) at (c .holds)
+marks-unread im b b' d h p c = rw (its-table h, p) at (c .holds)

@@ -2,13 +2,15 @@
 use Prim.Native.Nat.{ℕ, zero, suc, _+_, _*_, _%_, _≤_, _<_}
 use native.Mathlib.Omega.{arith}
 use mathlib.Core.Path.{_≡_, refl, ap, sym, subst, _∙_}
-use mathlib.Core.Bool.{Bool, false, not, _&&_}
+use mathlib.Core.Bool.{false, _&&_}
 use mathlib.Core.List.{List, [], _∷_, _++_, append-assoc, map, flatten}
 use lib.Dec.{leb, eqb}
 use lib.ListN.{length, getD, take, length-append, length-map, List·getD-map}
 use lib.Seq.{take-suc, take-length}
+use borrow.Author.Tests.{le-ltb, eq-eqb}
+use Rattle.words.specs.Refusal.{first}
 use Rattle.words.proofs.Tests.{Passes, together, is-equal, is-at-most, is-true}
-use Rattle.algorithm.specs.Table.{Server, Table, absent, count, ceiling, soundServer, broken, trimmed}
+use Rattle.algorithm.specs.Table.{Server, Table, absent, count, ceiling, positions, soundServer, broken, trimmed}
 use Rattle.words.specs.Lists.{nth, every, between}
 use Rattle.words.proofs.Lists.{every-nth}
 use Rattle.algorithm.proofs.Sound.{SoundTable, table-sound}
@@ -18,20 +20,16 @@ use Rattle.table.specs.Layout.{tableBytes}
 use Rattle.table.proofs.SoundLaws.{marks-sound}
 use Rattle.table.proofs.HeldLaws.{roomy-at}
 use Rattle.table.proofs.StoredLaws.{its-shape}
-use Rattle.image.specs.Contents.{firstBody, opened, counted, offset, size, stop, start, mayHave, laid, laidOut}
+use Rattle.image.specs.Contents.{firstBody, figureBytes, opened, counted, offset, size, stop, start, mayHave, laid, laidOut}
 use Rattle.image.specs.Image.{opening, marksBody, serverBody, bodies, contents, image}
 use Rattle.image.specs.Bodies.{body, marksIn, serverIn, soundMarksBody, soundServerBody, soundAt, soundBodies}
 use Rattle.reader.specs.Reader.{serversTo, readReply, readTable, readEnd}
 use Rattle.words.proofs.BelowLaws.{below-all}
-use Rattle.reader.proofs.ReplyLaws.{reply-0}
 use Rattle.image.proofs.ImageLaws.{place, place-last, place-most, joined, length-joined, length-contents, joined-offset, joined-size, joined-stop, joined-body}
 use Rattle.reader.proofs.BodyBack.{length-trimmed, length-body, marks-back, marks-pass, server-back, server-pass}
 
-passed : {b : Bool} → Passes b → not b ≡ false
-passed {b} h = rw (is-true b (h .yes))
-
 -- bodies have room for their places in two bytes
-servers-short : (ss : List Server) → AllRoomy ss → length (flatten (map serverBody ss)) ≤ 272 * length ss
+servers-short : (ss : List Server) → AllRoomy ss → length (flatten (map serverBody ss)) ≤ (figureBytes + 4 * positions) * length ss
 unfolding flatten
 servers-short [] h = omega arith
 servers-short (s ∷ ss) h =
@@ -41,10 +39,10 @@ length-marks : (ms : List ℕ) → length (marksBody ms) ≤ 4 * length ms
 length-marks ms = omega (arith, length-bytes (trimmed ms), length-trimmed ms)
 
 -- f bytes, a multiple of 4, and k numbers of four bytes are a length of a body that has f bytes before its numbers
-fitting : (f j k v : ℕ) → f ≡ 4 * j → v ≡ f + 4 * k → k ≤ 64 → Passes (leb f v && leb v (f + 256) && eqb (v % 4) 0)
+fitting : (f j k v : ℕ) → f ≡ 4 * j → v ≡ f + 4 * k → k ≤ positions → Passes (leb f v && leb v (f + 4 * positions) && eqb (v % 4) 0)
 fitting f j k v ef ev l =
-    together {a = leb f v && leb v (f + 256)}
-    (together {a = leb f v} (is-at-most {a = f} {b = v} (omega arith)) (is-at-most {a = v} {b = f + 256} (omega arith)))
+    together {a = leb f v && leb v (f + 4 * positions)}
+    (together {a = leb f v} (is-at-most {a = f} {b = v} (omega arith)) (is-at-most {a = v} {b = f + 4 * positions} (omega arith)))
     (is-equal {a = v % 4} {b = 0} (omega arith))
 
 module _ (t : Table) (h : broken t ≡ false) where
@@ -81,7 +79,7 @@ module _ (t : Table) (h : broken t ≡ false) where
     unfolding nth
     small-at = roomy-at (t .servers) (suc s) (shape .roomy) .small
 
-    short-at : length (getD (t .servers) s absent .log) ≤ 64
+    short-at : length (getD (t .servers) s absent .log) ≤ positions
     unfolding nth
     short-at = roomy-at (t .servers) (suc s) (shape .roomy) .short
 
@@ -95,7 +93,7 @@ module _ (t : Table) (h : broken t ≡ false) where
   sized (suc s) l =
       let a = getD (t .servers) s absent in
       subst (λ (b : List ℕ). Passes (mayHave (suc s) (length b))) (sym (body-at s l))
-      (fitting 16 4 (length (a .log)) (length (serverBody a)) refl (length-body a) (short-at s l))
+      (fitting figureBytes 4 (length (a .log)) (length (serverBody a)) refl (length-body a) (short-at s l))
 
   module _ (rest : List ℕ) where
     abbrev im : List ℕ
@@ -148,11 +146,16 @@ module _ (t : Table) (h : broken t ≡ false) where
     all-sound = below-all (count t + 1) (soundAt im) sound-body
 
     number : (slice : List ℕ) → length slice ≡ tableBytes → readReply im slice ≡ 0
+    unfolding readReply first
     number slice e =
         let some : Passes (counted im) = together {a = leb 1 (count t)} (is-at-most (rules .some)) (is-at-most (rules .few)) in
-        sym
-        (reply-0 im slice e (omega (arith, long)) (opened im) refl refl (counted im) refl (passed some)
-        (laidOut im) refl (passed laid-out) (soundBodies im) refl (passed all-sound))
+        rw (
+          eq-eqb (length slice) tableBytes e,
+          le-ltb (length im) 8 (omega (arith, long)),
+          is-true (counted im) (some .yes),
+          is-true (laidOut im) (laid-out .yes),
+          is-true (soundBodies im) (all-sound .yes),
+        )
 
     -- ---- what is read
 

@@ -1,20 +1,22 @@
 -- The reply by the tests that lead to it, and what an image that is read fulfils. Assumes nothing.
-use Prim.Native.Nat.{ℕ, _+_, _*_, _%_, _≤_, _<_}
+use Prim.Native.Nat.{ℕ, _+_, _%_, _≤_, _<_}
 use native.Mathlib.Omega.{arith}
 use mathlib.Core.Path.{_≡_, sym, _∙_}
 use mathlib.Core.Bool.{Bool, true, false, not}
 use mathlib.Core.List.{List}
-use lib.Dec.{leb, eqb, leb→le}
+use lib.Dec.{eqb}
 use lib.ListN.{length, getD}
 use borrow.Author.Tests.{lt-ltb, le-ltb, eq-eqb, ne-eqb, not-false}
-use Rattle.words.proofs.Tests.{Passes, both, refuted, equal, at-most, three}
+use Rattle.words.proofs.Tests.{Passes, both, refuted, equal, at-most}
 use Rattle.words.specs.Lists.{every}
+use Rattle.algorithm.specs.Table.{mostServers}
 use Rattle.words.specs.Refusal.{first}
 use Rattle.words.proofs.RefusalLaws.{none-hold}
 use Rattle.table.specs.Layout.{tableBytes, stored}
 use Rattle.table.specs.Slice.{Holds}
 use Rattle.table.proofs.StoredLaws.{held-stored}
-use Rattle.image.specs.Contents.{opened, countIn, counted, offset, size, stop, start, fixed, mayHave, laid, laidOut}
+use Rattle.image.specs.Contents as Contents
+use Rattle.image.specs.Contents.{countIn, counted, offset, size, stop, firstBody, start, laid, laidOut}
 use Rattle.image.specs.Bodies.{soundBodies}
 use Rattle.reader.specs.Reader.{readRefusals, readReply, readTable, readEnd, readBytes, endAfter}
 use Rattle.image.specs.Asked.{Names, Named}
@@ -32,7 +34,7 @@ module _ (im slice : List ℕ) where
     unfolding readReply first
     reply-30 h = rw (eq-eqb (length slice) tableBytes sized, lt-ltb (length im) 8 h)
 
-    module _ (long : 8 ≤ length im) (o : Bool) (eo : o ≡ opened im) where
+    module _ (long : 8 ≤ length im) (o : Bool) (eo : o ≡ Contents.opened im) where
       pub reply-31 : not o ≡ true → 31 ≡ readReply im slice
       unfolding readReply first
       reply-31 h = rw (eq-eqb (length slice) tableBytes sized, le-ltb (length im) 8 long, ← eo, h)
@@ -58,24 +60,34 @@ module _ (im slice : List ℕ) where
 
 -- ---- an image that is laid out
 
-names : (im : List ℕ) (e : ℕ) → 12 + 4 * e ≤ length im → Passes (laid im e) → Names im e
-names im e room h =
-    let v = size im e in
-    let (place, sized, within) = three (eqb (offset im e) (start im e)) (mayHave e v) (leb (stop im e) (length im)) (h .yes) in
-    let (least, most, whole) = three (leb (fixed e) v) (leb v (fixed e + 256)) (eqb (v % 4) 0) sized in
+-- what an entry says that is as it has to be
+pub record Extent (im : List ℕ) (e : ℕ) : Type 0 where
+  pub place : offset im e ≡ start im e
+  pub four : size im e % 4 ≡ 0
+  pub names : Names im e
+
+extent : (im : List ℕ) (e : ℕ) → firstBody e ≤ length im → Passes (laid im e) → Extent im e
+extent im e room h =
+    let (front, within) = both h in
+    let (place, sized) = both front in
+    let (range, four) = both sized in
+    let (least, most) = both range in
     record {
-      there = room;
-      within = leb→le (stop im e) (length im) within;
-      least = leb→le (fixed e) v least;
-      most = leb→le v (fixed e + 256) most;
+      place = equal place;
+      four = equal four;
+      names = record { there = room; within = at-most within; least = at-most least; most = at-most most };
     }
+
+extents : (im : List ℕ) → Passes (laidOut im) → (e : ℕ) → e ≤ countIn im → Extent im e
+unfolding laidOut
+extents im h e l =
+    let (room, all) = both h in
+    let complete : firstBody (countIn im) ≤ length im = at-most room in
+    extent im e (omega arith) (all-below (countIn im + 1) (laid im) all e (omega arith))
 
 named : (im : List ℕ) → Passes (laidOut im) → Named im
 unfolding laidOut
-named im h =
-    let (room, all) = both h in
-    let complete = at-most room in
-    record { complete = complete; each = λ e l. names im e (omega arith) (all-below (countIn im + 1) (laid im) all e (omega arith)) }
+named im h = record { complete = at-most (both h .0); each = λ e l. extents im h e l .names }
 
 pub named-by : (im : List ℕ) (l : Bool) → l ≡ laidOut im → not l ≡ false → Named im
 named-by im l e h = named im (record { yes = rw (← e, not-false l h) tt })
@@ -85,7 +97,9 @@ named-by im l e h = named im (record { yes = rw (← e, not-false l h) tt })
 pub record Readable (im slice : List ℕ) : Type 0 where
   pub sized : length slice ≡ tableBytes
   pub some : 1 ≤ countIn im
-  pub few : countIn im ≤ 16
+  pub few : countIn im ≤ mostServers
+  pub opened : Passes (Contents.opened im)
+  pub extents : (e : ℕ) → e ≤ countIn im → Extent im e
   pub named : Named im
   pub sound : Passes (soundBodies im)
 
@@ -94,14 +108,14 @@ unfolding readReply every
 readable im slice e =
     let none = none-hold (readRefusals im slice) tt e in
     let (some, few) = both (refuted (none 32)) in
-    record { sized = equal (refuted (none 1)); some = at-most some; few = at-most few; named = named im (refuted (none 33)); sound = refuted (none 34) }
+    record { sized = equal (refuted (none 1)); some = at-most some; few = at-most few; opened = refuted (none 31); extents = extents im (refuted (none 33)); named = named im (refuted (none 33)); sound = refuted (none 34) }
 
 module _ (im slice : List ℕ) (k : ℕ) (e : k ≡ readReply im slice) where
   module _ (h : k ≡ 0) where
     pub read-sized : length slice ≡ tableBytes
     read-sized = readable im slice (sym e ∙ h) .sized
 
-    pub read-few : countIn im ≤ 16
+    pub read-few : countIn im ≤ mostServers
     read-few = readable im slice (sym e ∙ h) .few
 
     pub read-named : Named im

@@ -7,7 +7,7 @@ use lib.Dec.{leb, eqb}
 use lib.ListN.{getD}
 use Rattle.words.proofs.Tests.{Passes, both}
 use Rattle.words.specs.Lists.{every, between}
-use Rattle.algorithm.specs.Table.{ceiling, soundServer}
+use Rattle.algorithm.specs.Table.{ceiling, positions, soundServer}
 use Rattle.words.proofs.Lists.{every-cons, cons-every, every-plus}
 use Rattle.algorithm.proofs.Sound.{SoundTable}
 use Rattle.words.specs.Words.{words}
@@ -48,6 +48,6 @@ read-sound im slice e =
       some = omega (arith, many, r .some);
       few = omega (arith, many, r .few);
       servers = subst (λ (k : ℕ). Passes (every (soundServer k) (serversTo n im))) (sym many) (servers-sound im each n (omega arith));
-      full = length-padded 64 (words (body im 0));
-      marks = padded-sound 64 (words (body im 0)) (both {a = every (between 0 ceiling) (words (body im 0))} (each 0 (omega arith)) .0);
+      full = length-padded positions (words (body im 0));
+      marks = padded-sound positions (words (body im 0)) (both {a = every (between 0 ceiling) (words (body im 0))} (each 0 (omega arith)) .0);
     }

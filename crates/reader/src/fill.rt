@@ -1,23 +1,23 @@
 // A slice filled with the table of an image that is judged already. A body is read from the part of the image that its entry names.
 ghost use mathlib.Core.Path.{_≡_};
 ghost use mathlib.Core.List.{[]};
-ghost use Prim.Native.Nat.{_*_, _≤_};
+ghost use Prim.Native.Nat.{_≤_, _<_};
 ghost use lib.ListN.{length, replicate};
 ghost use Rattle.algorithm.specs.Table.{server, withMarks, withServer, changed, withLog, positions, mostServers};
+ghost use Rattle.table.specs.Figures.{figured};
 ghost use Rattle.table.specs.Layout.{tableBytes, tableIn};
 ghost use Rattle.table.specs.Slice.{Holds, Held, Became, Within};
 ghost use Rattle.image.specs.Contents.{countIn};
-ghost use Rattle.image.specs.Bodies.{body, marksIn, serverIn};
-ghost use Rattle.image.specs.Asked.{Names, Named, Sized, withFigures};
+ghost use Rattle.image.specs.Bodies.{marksIn, serverIn};
+ghost use Rattle.image.specs.Asked.{Named, Sized};
 ghost use Rattle.reader.specs.Reader.{readTable};
 ghost use Rattle.reader.specs.Filling.{unread};
 use algorithm::Position;
 use algorithm::Term;
-use image::bodies::Figures;
+use image::bodies::body_of;
 use image::bodies::figures_of;
 use image::contents::count_of;
-use image::contents::offset_of;
-use image::contents::stop_of;
+use table::figures::Figures;
 use table::rows::push;
 use table::rows::put_config;
 use table::rows::put_mark;
@@ -31,7 +31,7 @@ fn put_log(t: &mut [u8], s: usize, b: &[u8])
     requires { ⌜ Held (now t) ⌝ }
     requires { ⌜ Within (now t) s ⌝ }
     requires { ⌜ server (tableIn (now t)) s .log ≡ [] ⌝ }
-    requires { ⌜ Sized (now b) ⌝ }
+    requires { ⌜ Sized 1 (now b) ⌝ }
     ensures { λ _. ⌜ Became (now (t .entry)) (now (t .exit)) (changed (tableIn (now (t .entry))) s (withLog (serverIn (now (b .entry)) .log))) ⌝ }
 {
     let n = b.len() / 4 - 4;
@@ -45,18 +45,19 @@ fn put_log(t: &mut [u8], s: usize, b: &[u8])
 fn put_figures(t: &mut [u8], s: usize, f: Figures)
     requires { ⌜ Held (now t) ⌝ }
     requires { ⌜ Within (now t) s ⌝ }
-    ensures { λ _. ⌜ Became (now (t .entry)) (now (t .exit)) (changed (tableIn (now (t .entry))) s (withFigures f)) ⌝ }
+    requires { ⌜ f .set < 65536 ⌝ }
+    ensures { λ _. ⌜ Became (now (t .entry)) (now (t .exit)) (withServer (tableIn (now (t .entry))) s (figured f (server (tableIn (now (t .entry))) s .log))) ⌝ }
 {
     put_role(t, s, f.role);
     put_term(t, s, f.term);
-    put_config(t, s, f.set, f.version, f.config);
+    put_config(t, s, f.set as u16, f.version, f.config);
 }
 
 fn put_server(t: &mut [u8], s: usize, b: &[u8])
     requires { ⌜ Held (now t) ⌝ }
     requires { ⌜ Within (now t) s ⌝ }
     requires { ⌜ server (tableIn (now t)) s .log ≡ [] ⌝ }
-    requires { ⌜ Sized (now b) ⌝ }
+    requires { ⌜ Sized 1 (now b) ⌝ }
     ensures { λ _. ⌜ Became (now (t .entry)) (now (t .exit)) (withServer (tableIn (now (t .entry))) s (serverIn (now (b .entry)))) ⌝ }
 {
     // First the log: it asks that the server has none yet, which is known of the slice as it came.
@@ -68,7 +69,7 @@ fn put_server(t: &mut [u8], s: usize, b: &[u8])
 fn put_marks(t: &mut [u8], b: &[u8])
     requires { ⌜ Held (now t) ⌝ }
     requires { ⌜ tableIn (now t) .marks ≡ replicate positions 0 ⌝ }
-    requires { ⌜ length (now b) ≤ 4 * positions ⌝ }
+    requires { ⌜ Sized 0 (now b) ⌝ }
     ensures { λ _. ⌜ Became (now (t .entry)) (now (t .exit)) (withMarks (marksIn (now (b .entry))) (tableIn (now (t .entry)))) ⌝ }
 {
     let n = (b.len() / 4) as u8;
@@ -80,31 +81,6 @@ fn put_marks(t: &mut [u8], b: &[u8])
     }
 }
 
-// The marks from the part of the image that their entry names.
-fn fill_marks(t: &mut [u8], image: &[u8])
-    requires { ⌜ Held (now t) ⌝ }
-    requires { ⌜ tableIn (now t) .marks ≡ replicate positions 0 ⌝ }
-    requires { ⌜ Names (now image) 0 ⌝ }
-    ensures { λ _. ⌜ Became (now (t .entry)) (now (t .exit)) (withMarks (marksIn (body (now (image .entry)) 0)) (tableIn (now (t .entry)))) ⌝ }
-{
-    let at = offset_of(image, 0);
-    let stop = stop_of(image, 0);
-    put_marks(t, &image[at..stop]);
-}
-
-// Server s, likewise.
-fn fill_server(t: &mut [u8], s: usize, image: &[u8])
-    requires { ⌜ Held (now t) ⌝ }
-    requires { ⌜ Within (now t) s ⌝ }
-    requires { ⌜ server (tableIn (now t)) s .log ≡ [] ⌝ }
-    requires { ⌜ Names (now image) s ⌝ }
-    ensures { λ _. ⌜ Became (now (t .entry)) (now (t .exit)) (withServer (tableIn (now (t .entry))) s (serverIn (body (now (image .entry)) s))) ⌝ }
-{
-    let at = offset_of(image, s);
-    let stop = stop_of(image, s);
-    put_server(t, s, &image[at..stop]);
-}
-
 fn fill_servers(t: &mut [u8], image: &[u8])
     requires { ⌜ Holds (now t) (unread (now image)) ⌝ }
     requires { ⌜ Named (now image) ⌝ }
@@ -114,7 +90,7 @@ fn fill_servers(t: &mut [u8], image: &[u8])
     let mut s: usize = 0;
     while s < n {
         s += 1;
-        fill_server(t, s, image);
+        put_server(t, s, body_of(image, s));
     }
 }
 
@@ -125,6 +101,6 @@ pub fn fill(t: &mut [u8], image: &[u8])
     ensures { λ _. ⌜ Holds (now (t .exit)) (readTable (now (image .entry))) ⌝ }
 {
     fill_blank(t, image[4]);
-    fill_marks(t, image);
+    put_marks(t, body_of(image, 0));
     fill_servers(t, image);
 }

@@ -62,7 +62,7 @@ module _ (b b₁ b₂ b₃ : List ℕ) (at c d e : ℕ) where
   unfolding badSiteLine
   bad-site r v n w = record { wrote = then (then v (n .wrote)) w; short = omega (arith, v .end, n .short, w .end) }
 
-  pub row : (s : ℕ) (a : Row) → WroteShort 16 b b₁ at (text "row" ++ field s ++ letter (a .role)) c → WroteShort 66 b₁ b₂ c (fields (figures a)) d
+  pub row : (s : ℕ) (a : Row) → WroteShort 16 b b₁ at (text "row" ++ field s ++ letter (a .figures .role)) c → WroteShort 66 b₁ b₂ c (fields (figures a)) d
       → Wrote b₂ b₃ d (text "\n") e → WroteShort 83 b b₃ at (shownRow s a) e
   unfolding shownRow
   row s a n f w = record { wrote = then (then (n .wrote) (f .wrote)) w; short = omega (arith, n .short, f .short, w .end) }

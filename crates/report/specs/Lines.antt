@@ -41,11 +41,11 @@ letter r = cond (eqb r 1) (text " P") (text " S")
 
 -- the figures behind the role
 abbrev pub figures : Row → List ℕ
-figures a = a .term .0 ∷ a .set ∷ a .version .0 ∷ a .config .0 ∷ a .length .0 ∷ a .last .0 ∷ []
+figures a = a .figures .term .0 ∷ a .figures .set ∷ a .figures .version .0 ∷ a .figures .config .0 ∷ a .length .0 ∷ a .last .0 ∷ []
 
 -- the row a under the number s
 unfoldable pub shownRow : ℕ → Row → List ℕ
-shownRow s a = text "row" ++ field s ++ letter (a .role) ++ fields (figures a) ++ text "\n"
+shownRow s a = text "row" ++ field s ++ letter (a .figures .role) ++ fields (figures a) ++ text "\n"
 
 -- the line of server number s, with a's figures
 abbrev pub rowLine : ℕ → Server → List ℕ

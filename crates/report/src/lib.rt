@@ -64,7 +64,8 @@ pub fn row_line(buffer: &mut [u8], at: usize, s: u8, a: Row) -> usize
     requires { ⌜ at + 83 ≤ length (now buffer) ⌝ }
     ensures { λ e. ⌜ WroteShort 83 (now (buffer .entry)) (now (buffer .exit)) at (shownRow s a) e ⌝ }
 {
-    let end = put_head(buffer, at, s, a.role);
+    let f = a.figures;
+    let end = put_head(buffer, at, s, f.role);
     let end = put_figures(buffer, end, a);
     put_byte(buffer, end, b'\n')
 }

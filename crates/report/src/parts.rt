@@ -59,8 +59,9 @@ pub(crate) fn put_figures(buffer: &mut [u8], at: usize, a: Row) -> usize
     requires { ⌜ at + 66 ≤ length (now buffer) ⌝ }
     ensures { λ e. ⌜ WroteShort 66 (now (buffer .entry)) (now (buffer .exit)) at (fields (figures a)) e ⌝ }
 {
-    let end = put_three(buffer, at, a.term.0, a.set as u32, a.version.0);
-    put_three(buffer, end, a.config.0, a.length.0 as u32, a.last.0)
+    let f = a.figures;
+    let end = put_three(buffer, at, f.term.0, f.set, f.version.0);
+    put_three(buffer, end, f.config.0, a.length.0 as u32, a.last.0)
 }
 
 // The first n marks.

@@ -2,14 +2,16 @@
 use Prim.Native.Nat.{ℕ}
 use mathlib.Core.Path.{_≡_, sym, _∙_}
 use mathlib.Core.Bool.{Bool, _||_, and-true, _&&_}
+use mathlib.Core.List.{[]}
 use lib.Dec.{leb, eqb}
 use Rattle.members.specs.Members.{within}
 use Rattle.words.specs.Lists.{every, between}
 use Rattle.algorithm.specs.Table.{ceiling, soundServer}
 use Rattle.table.specs.Figures.{figured}
+use Rattle.table.specs.declared.figures.Figures.{Figures}
 
-pub figures-tell : (role term set version config n : ℕ) (w : Bool) → w ≡ within set n
-    → ((eqb role 1 && leb 1 term || eqb role 0) && leb term ceiling && (w && between 1 ceiling version && leb config ceiling))
-    ≡ soundServer n (figured role term set version config)
+pub figures-tell : (f : Figures) (n : ℕ) (w : Bool) → w ≡ within (f .set) n
+    → ((eqb (f .role) 1 && leb 1 (f .term .0) || eqb (f .role) 0) && leb (f .term .0) ceiling && (w && between 1 ceiling (f .version .0) && leb (f .config .0) ceiling))
+    ≡ soundServer n (figured f [])
 unfolding every
-figures-tell role term set version config n w e = rw e (sym (and-true _ ∙ and-true _))
+figures-tell f n w e = rw e (sym (and-true _ ∙ and-true _))

@@ -13,8 +13,7 @@ use Rattle.algorithm.specs.Comparisons.{last}
 use Rattle.words.proofs.Lists.{length-replace}
 use Rattle.words.specs.Words.{words, Put}
 use Rattle.table.specs.Layout.{padded, terms, row, head, layout, tableIn}
-use Rattle.table.specs.Slice.{Holds, Held, Became, Within, seen}
-use Rattle.table.specs.declared.rows.Row.{Row}
+use Rattle.table.specs.Slice.{Holds, Held, Became, Within}
 use Rattle.table.proofs.LayoutLaws.{marks-in}
 use Rattle.table.proofs.HeldLaws.{its-table, held, its-room, Open, opened, read, then, closed, frame, open-row, close-row}
 
@@ -64,45 +63,19 @@ mark-read b (suc p) r h k l e =
     ∙ ap (λ (n : ℕ). getD (head (count t) (t .marks)) n 0) (past-six p)
     ∙ get-padded 64 (t .marks) p (omega arith)
 
--- ---- a row by value
+-- ---- the last entry
 
 none : (l : Log) → 0 ≡ termAt l 0
 unfolding nth
 none l = refl
 
 -- the word so far past the length as the log is long is its last entry; of an empty log that is the length itself, 0
-last-read : (s : Server) (n r : ℕ) → n ≡ length (s .log) → n ≤ 64 → r ≡ getD (row s) (5 + n) 0 → r ≡ last (s .log)
+pub last-read : (s : Server) (n r : ℕ) → n ≡ length (s .log) → n ≤ 64 → r ≡ getD (row s) (5 + n) 0 → r ≡ last (s .log)
 last-read s n r e l h = rw (← e) (go n e l h)
   where
     go : (n : ℕ) → n ≡ length (s .log) → n ≤ 64 → r ≡ getD (row s) (5 + n) 0 → r ≡ termAt (s .log) n
     go zero e l h = h ∙ sym e ∙ none (s .log)
     go (suc p) e l h = entry-read s (suc p) r (omega arith) l h
-
-pub row-seen : (s : Server) (r t m v c l e : ℕ) → r ≡ s .role → t ≡ s .term → m ≡ s .config .set → v ≡ s .config .version
-    → c ≡ s .config .term → l ≡ length (s .log) → l ≤ 64 → e ≡ getD (row s) (5 + l) 0
-    → _≡_ {A = Row}
-    (record {
-      role = r;
-      term = record { 0 = t };
-      set = m;
-      version = record { 0 = v };
-      config = record { 0 = c };
-      length = record { 0 = l };
-      last = record { 0 = e };
-    })
-    (seen s)
-row-seen s r t m v c l e er et em ev ec el short ee =
-    let end : e ≡ last (s .log) = last-read s l e el short ee in
-    λ d.
-    record {
-      role = er d;
-      term = record { 0 = et d };
-      set = em d;
-      version = record { 0 = ev d };
-      config = record { 0 = ec d };
-      length = record { 0 = el d };
-      last = record { 0 = end d };
-    }
 
 pub set-small : (b : List ℕ) (i r : ℕ) → Held b → r ≡ server (tableIn b) i .config .set → r < 65536
 set-small b i r h e = omega (arith, e, its-room i h .small)

@@ -7,6 +7,7 @@ use Rattle.algorithm.specs.Table.{Server, Table, count, absent, positions, most
 use Rattle.algorithm.specs.Comparisons.{last}
 use Rattle.words.specs.Words.{words}
 use Rattle.table.specs.Layout.{tableBytes, layout, tableIn}
+use Rattle.table.specs.Figures.{figuresOf}
 use Rattle.table.specs.declared.rows.Row.{Row}
 
 -- a log of n entries has room in a row, and the set m in 16 bits
@@ -54,15 +55,11 @@ pub record Within (b : List ℕ) (s : ℕ) : Type 0 where
 abbrev pub blank : ℕ → Table
 blank n = record { servers = replicate n absent; marks = replicate positions 0 }
 
--- a server's figures, as the code reads them at once: of its log the length and the last entry
+-- what the code reads of a server at once: its figures, and of its log the length and the last entry
 abbrev pub seen : Server → Row
 seen s =
     record {
-      role = s .role;
-      term = record { 0 = s .term };
-      set = s .config .set;
-      version = record { 0 = s .config .version };
-      config = record { 0 = s .config .term };
+      figures = figuresOf s;
       length = record { 0 = lib.ListN.length (s .log) };
       last = record { 0 = Rattle.algorithm.specs.Comparisons.last (s .log) };
     }

@@ -1,5 +1,6 @@
-// Whether a server's figures keep the rules; its log is judged beside them.
+// A server's figures, all but its log, and whether they keep the rules; the log is judged beside them.
 ghost use mathlib.Core.Path.{_≡_};
+ghost use mathlib.Core.List.{[]};
 ghost use Rattle.algorithm.specs.Table.{soundServer};
 ghost use Rattle.table.specs.Figures.{figured};
 use algorithm::CEILING;
@@ -9,13 +10,22 @@ use algorithm::Term;
 use algorithm::Version;
 use members::is_within;
 
+// The set has the bits of a word: a slice is judged before it is known that no higher bit is set.
+pub struct Figures {
+    pub role: u32,
+    pub term: Term,
+    pub set: u32,
+    pub version: Version,
+    pub config: Term,
+}
+
 // The figures are those of a server of a table of n. The answers are joined without branches, as those of a loop over words are.
-pub fn figures_sound(role: u32, term: Term, set: u32, version: Version, config: Term, n: u8) -> bool
-    ensures { λ r. ⌜ r ≡ soundServer n (figured role (term .0) set (version .0) (config .0)) ⌝ }
+pub fn figures_sound(f: Figures, n: u8) -> bool
+    ensures { λ r. ⌜ r ≡ soundServer n (figured f []) ⌝ }
 {
-    let role_sound = (role == PRIMARY) & (1 <= term.0) | (role == SECONDARY);
-    let config_sound = is_within(set, n)
-        & ((1 <= version.0) & (version.0 <= CEILING))
-        & (config.0 <= CEILING);
-    role_sound & (term.0 <= CEILING) & config_sound
+    let role_sound = (f.role == PRIMARY) & (1 <= f.term.0) | (f.role == SECONDARY);
+    let config_sound = is_within(f.set, n)
+        & ((1 <= f.version.0) & (f.version.0 <= CEILING))
+        & (f.config.0 <= CEILING);
+    role_sound & (f.term.0 <= CEILING) & config_sound
 }

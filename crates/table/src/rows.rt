@@ -6,19 +6,16 @@ ghost use Rattle.algorithm.specs.Table.{entry, count, server, termAt, mark, cha
 ghost use Rattle.algorithm.specs.Comparisons.{last};
 ghost use Rattle.table.specs.Layout.{rowWords, row, tableIn};
 ghost use Rattle.table.specs.Slice.{Held, Became, Within, seen};
+use crate::figures::Figures;
 use algorithm::Position;
 use algorithm::Term;
 use algorithm::Version;
 use words::put;
 use words::word;
 
-// A server's figures; `last` is its log's last entry, 0 where the log is empty.
+// A server's figures, and of its log the length and the last entry, 0 where it is empty.
 pub struct Row {
-    pub role: u32,
-    pub term: Term,
-    pub set: u16,
-    pub version: Version,
-    pub config: Term,
+    pub figures: Figures,
     pub length: Position,
     pub last: Term,
 }
@@ -114,15 +111,18 @@ pub fn length_of(t: &[u8], s: usize) -> Position
 pub fn row_of(t: &[u8], s: usize) -> Row
     requires { ⌜ Held (now t) ⌝ }
     requires { ⌜ Within (now t) s ⌝ }
-    ensures { λ r. ⌜ r ≡ seen (server (tableIn (now (t .entry))) s) ⌝ }
+    ensures { λ r. ⌜ (r ≡ seen (server (tableIn (now (t .entry))) s)) × (r .figures .set < 65536) ⌝ }
 {
     let n = length_of(t, s);
-    Row {
+    let figures = Figures {
         role: role_of(t, s),
         term: term_of(t, s),
-        set: set_of(t, s),
+        set: set_of(t, s) as u32,
         version: version_of(t, s),
         config: config_of(t, s),
+    };
+    Row {
+        figures: figures,
         length: n,
         last: Term(field(t, s, LENGTH + n.0 as usize)),
     }

@@ -10,17 +10,18 @@ use borrow.Author.Tests.{le-leb, lt-leb}
 use Rattle.words.specs.Lists.{every, between, part}
 use Rattle.algorithm.specs.Table.{withLog, ceiling, soundServer}
 use Rattle.table.specs.Figures.{figured}
+use Rattle.table.specs.declared.figures.Figures.{Figures}
 use Rattle.table.specs.Layout.{serverOf}
 use Rattle.whole.specs.Check.{soundRow, soundRows, soundWords}
 
 -- ---- a row at a place
 
 module _ (c : List ℕ) (at n : ℕ) where
-  pub figures-at : (role term set version config : ℕ) (r : Bool) → role ≡ getD c (at + 0) 0 → term ≡ getD c (at + 1) 0 → set ≡ getD c (at + 2) 0
-      → version ≡ getD c (at + 3) 0 → config ≡ getD c (at + 4) 0 → r ≡ soundServer n (figured role term set version config)
+  pub figures-at : (f : Figures) (r : Bool) → f .role ≡ getD c (at + 0) 0 → f .term .0 ≡ getD c (at + 1) 0 → f .set ≡ getD c (at + 2) 0
+      → f .version .0 ≡ getD c (at + 3) 0 → f .config .0 ≡ getD c (at + 4) 0 → r ≡ soundServer n (figured f [])
       → r ≡ soundServer n (withLog [] (serverOf (drop at c)))
   unfolding serverOf
-  figures-at role term set version config r e₀ e₁ e₂ e₃ e₄ e =
+  figures-at f r e₀ e₁ e₂ e₃ e₄ e =
       rw (
         getD-drop at c 0 0,
         getD-drop at c 1 0,

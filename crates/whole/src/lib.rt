@@ -11,6 +11,7 @@ use algorithm::CEILING;
 use algorithm::Term;
 use algorithm::Version;
 use table::BYTES;
+use table::figures::Figures;
 use table::figures::figures_sound;
 use table::rows::CONFIG;
 use table::rows::ENTRIES;
@@ -37,12 +38,14 @@ fn row_figures_sound(t: &[u8], n: u8, s: usize) -> bool
     ensures { λ r. ⌜ r ≡ soundServer n (withLog [] (serverOf (drop (rowWords * s) (words (now (t .entry)))))) ⌝ }
 {
     let at = ROW * s;
-    let role = word(t, at + ROLE);
-    let term = Term(word(t, at + TERM));
-    let set = word(t, at + SET);
-    let version = Version(word(t, at + VERSION));
-    let config = Term(word(t, at + CONFIG));
-    figures_sound(role, term, set, version, config, n)
+    let f = Figures {
+        role: word(t, at + ROLE),
+        term: Term(word(t, at + TERM)),
+        set: word(t, at + SET),
+        version: Version(word(t, at + VERSION)),
+        config: Term(word(t, at + CONFIG)),
+    };
+    figures_sound(f, n)
 }
 
 fn row_sound(t: &[u8], n: u8, s: usize) -> bool

@@ -10,12 +10,13 @@ use lib.ListN.{length, getD, take, drop, replicate}
 use lib.Seq.{getD-drop}
 use Rattle.words.proofs.Tests.{Passes, both, either, equal, at-most}
 use Rattle.words.specs.Lists.{nth, every, between}
-use Rattle.algorithm.specs.Table.{ceiling, kept, trimmed}
+use Rattle.algorithm.specs.Table.{ceiling, positions, kept, trimmed}
 use Rattle.words.specs.Words.{half, words, bytes}
 use Rattle.words.proofs.WordLaws.{length-words, bytes-words}
 use Rattle.table.specs.Layout.{padded}
 use Rattle.table.proofs.LayoutLaws.{padded-is}
 use Rattle.whole.proofs.WholeLaws.{terms-entries}
+use Rattle.image.specs.Contents.{figureBytes}
 use Rattle.image.specs.Bodies.{marksIn, serverIn, soundMarksBody}
 use Rattle.image.specs.Image.{marksBody, serverBody}
 
@@ -57,14 +58,14 @@ unfolding trimmed
 trim-last x [] r h = ap (kept x) (trim-zeros r) ∙ kept-some x h
 trim-last x (y ∷ l) r h = ap (kept x) (trim-last y l r h)
 
-trim-padded : (w : List ℕ) → length w ≤ 64 → Passes (eqb (length w) 0 || leb 1 (nth w (length w) 0)) → trimmed (padded 64 w) ≡ w
+trim-padded : (w : List ℕ) → length w ≤ positions → Passes (eqb (length w) 0 || leb 1 (nth w (length w) 0)) → trimmed (padded positions w) ≡ w
 unfolding nth
-trim-padded [] h e = ap trimmed (padded-is 64 [] 64 (omega arith)) ∙ trim-zeros 64
+trim-padded [] h e = ap trimmed (padded-is positions [] positions (omega arith)) ∙ trim-zeros positions
 trim-padded (x ∷ w) h e =
     let last : 1 ≤ getD (x ∷ w) (length w) 0 = ⊎-elim (λ z. absurd (omega (arith, equal {a = suc (length w)} {b = 0} z))) at-most (either e) in
-    ap trimmed (padded-is 64 (x ∷ w) (64 - length (x ∷ w)) (omega arith)) ∙ trim-last x w (64 - length (x ∷ w)) last
+    ap trimmed (padded-is positions (x ∷ w) (positions - length (x ∷ w)) (omega arith)) ∙ trim-last x w (positions - length (x ∷ w)) last
 
-pub marks-copy : (b : List ℕ) (k : ℕ) → Bytes b → length b ≡ 4 * k → length b ≤ 256 → Passes (soundMarksBody b) → marksBody (marksIn b) ≡ b
+pub marks-copy : (b : List ℕ) (k : ℕ) → Bytes b → length b ≡ 4 * k → length b ≤ 4 * positions → Passes (soundMarksBody b) → marksBody (marksIn b) ≡ b
 marks-copy b k h e l s =
     let (_, ends) = both {a = every (between 0 ceiling) (words b)} s in
     ap bytes (trim-padded (words b) (omega (arith, length-words b)) ends) ∙ bytes-words b k e h
@@ -77,7 +78,7 @@ three-first (x ∷ []) h = absurd (omega arith)
 three-first (x ∷ y ∷ []) h = absurd (omega arith)
 three-first (x ∷ y ∷ z ∷ w) h = refl
 
-pub server-copy : (b : List ℕ) (k : ℕ) → Bytes b → length b ≡ 4 * k → 16 ≤ length b → getD b 1 0 ≡ 0 → serverBody (serverIn b) ≡ b
+pub server-copy : (b : List ℕ) (k : ℕ) → Bytes b → length b ≡ 4 * k → figureBytes ≤ length b → getD b 1 0 ≡ 0 → serverBody (serverIn b) ≡ b
 unfolding words
 server-copy [] k h e l z = absurd (omega arith)
 server-copy (x ∷ []) k h e l z = absurd (omega arith)

@@ -1,26 +1,29 @@
 -- Numbers and bodies that are written one behind another. Assumes nothing.
-use Prim.Native.Nat.{ℕ, zero, suc, _+_, _*_, _/_, _%_, _≤_, _<_}
+use Prim.Native.Nat.{ℕ, zero, suc, _+_, _-_, _*_, _/_, _%_, _≤_, _<_}
 use native.Mathlib.Nat.{div-div-eq-div-mul}
-use native.Mathlib.Numerals.{add-one}
 use native.Mathlib.Omega.{arith}
 use mathlib.Core.Path.{_≡_, refl, ap, sym, _∙_}
 use mathlib.Core.List.{List, [], _∷_, _++_}
-use lib.ListN.{length, getD, take, length-map, List·getD-map}
-use lib.Seq.{take-suc, take-all}
-use Rattle.algorithm.specs.Table.{Entry, entry, Server, Table, absent, server, termAt, mark, trimmed}
+use lib.ListN.{length, getD, take, drop, List·getD-map}
+use lib.Seq.{take-take, drop-drop, drop-at}
+use Rattle.algorithm.specs.Table.{Server, Table, absent, server, positions, trimmed}
 use Rattle.words.specs.Lists.{nth}
-use Rattle.words.specs.Words.{half, bytes}
-use Rattle.words.proofs.WordLaws.{length-bytes}
+use Rattle.words.specs.Words.{half, words, bytes}
+use Rattle.words.proofs.WordLaws.{length-bytes, bytes-words}
+use Rattle.table.specs.Figures.{figured}
+use Rattle.table.specs.declared.figures.Figures.{Figures}
 use Rattle.table.specs.declared.rows.Row.{Row}
-use Rattle.table.specs.Layout.{terms, tableIn}
-use Rattle.table.specs.Slice.{Held, seen}
-use Rattle.table.proofs.HeldLaws.{its-room}
+use Rattle.table.specs.Layout.{rowWords, tableBytes, terms, row, layout, tableIn}
+use Rattle.table.specs.Slice.{Held, Within, seen}
+use Rattle.table.proofs.LayoutLaws.{log-terms, marks-back}
+use Rattle.table.proofs.HeldLaws.{its-room, frame, open-row}
+use Rattle.table.proofs.MarkLaws.{trimmed-take}
 use Rattle.buffer.specs.Buffer.{Wrote}
-use Rattle.buffer.proofs.WroteLaws.{wrote-none, sized, then}
+use Rattle.buffer.proofs.WroteLaws.{then}
+use Rattle.image.specs.Contents.{figureBytes}
 use Rattle.image.specs.Image.{marksBody, serverBody}
 use Rattle.reader.proofs.BodyBack.{length-body}
-use Rattle.writer.specs.Written.{bodyOf, figuresBody, Savable}
-use Rattle.table.proofs.MarkLaws.{trimmed-take}
+use Rattle.writer.specs.Written.{bodyOf, Savable}
 
 -- ---- numbers
 
@@ -32,96 +35,72 @@ pub four-bytes : (b b₁ b₂ : List ℕ) (at d e v : ℕ) → Wrote b b₁ at (
 unfolding bytes
 four-bytes b b₁ b₂ at d e v w x = rw (← div-div-eq-div-mul v 65536 256) (then w x)
 
-bytes-append : (l m : List ℕ) → bytes (l ++ m) ≡ bytes l ++ bytes m
+-- ---- words as they stand in a slice
+
+past : (k : ℕ) → 4 * suc k ≡ suc (suc (suc (suc (4 * k))))
+past k = omega arith
+
+drop-bytes : (k : ℕ) (w : List ℕ) → drop (4 * k) (bytes w) ≡ bytes (drop k w)
 unfolding bytes
-bytes-append [] m = refl
-bytes-append (x ∷ l) m = rw (bytes-append l m)
+drop-bytes zero w = refl
+drop-bytes (suc k) [] = rw past
+drop-bytes (suc k) (x ∷ w) = rw past (drop-bytes k w)
 
--- ---- numbers in a row
+take-bytes : (n : ℕ) (w : List ℕ) → take (4 * n) (bytes w) ≡ bytes (take n w)
+unfolding bytes
+take-bytes zero w = refl
+take-bytes (suc n) [] = rw past
+take-bytes (suc n) (x ∷ w) = rw (past, take-bytes n w)
 
-module _ (b : List ℕ) (at : ℕ) (l : List ℕ) where
-  -- the first k numbers are written, and e is the place behind them
-  pub record Numbered (b' : List ℕ) (k e : ℕ) : Type 0 where
-    pub long : length b' ≡ length b
-    pub end : e ≡ at + 4 * k
-    pub wrote : Wrote b b' at (bytes (take k l)) e
+pub words-wrote : (b b' t : List ℕ) (at k n r : ℕ) → ((i : ℕ) → getD t i 0 < 256) → length t ≡ tableBytes
+    → Wrote b b' at (take (4 * k + 4 * n - 4 * k) (drop (4 * k) t)) r → Wrote b b' at (bytes (take n (drop k (words t)))) r
+words-wrote b b' t at k n r byte e w =
+    let long : 4 * k + 4 * n - 4 * k ≡ 4 * n = omega arith in
+    rw (← take-bytes n (drop k (words t)), ← drop-bytes k (words t), bytes-words t 1190 e byte, ← long) w
 
-  pub number-none : at ≤ length b → Numbered b 0 at
-  unfolding bytes
-  number-none h = record { long = refl; end = omega arith; wrote = wrote-none b at h }
+-- the first marks behind the head of a slice, and the entries behind a server's figures
+module _ (t : List ℕ) (h : Held t) where
+  marks-words : (n : ℕ) → n ≡ length (trimmed (tableIn t .marks)) → n ≤ positions → take n (drop 6 (words t)) ≡ trimmed (tableIn t .marks)
+  marks-words n e l =
+      rw (h .laid, ← take-take n positions (drop 6 (layout (tableIn t))) l, marks-back (tableIn t) (h .shaped .marked), e) (trimmed-take (tableIn t .marks))
 
-  number-more : (b₁ b₂ : List ℕ) (k d e v : ℕ) → k < length l → v ≡ getD l k 0 → Numbered b₁ k d → Wrote b₁ b₂ d (bytes (v ∷ [])) e
-      → Numbered b₂ (k + 1) e
-  number-more b₁ b₂ k d e v h f n w =
-      record {
-        long = sized w ∙ n .long;
-        end = omega (arith, n .end, w .end, length-bytes (v ∷ []));
-        wrote = rw (add-one, take-suc l k 0 h, ← f, bytes-append (take k l) (v ∷ [])) (then (n .wrote) w);
-      }
-
-pub mark-room : (b b₁ ms : List ℕ) (k n d : ℕ) → n ≡ length (trimmed ms) → k < n → length (marksBody ms) ≤ length b → Numbered b 0 ms b₁ k d
-    → d + 4 ≤ length b₁
-mark-room b b₁ ms k n d e l h w = omega (arith, w .end, w .long, length-bytes (trimmed ms))
-
-module _ (b b₁ : List ℕ) (at k n e : ℕ) where
-  module _ (t : List ℕ) (h : Held t) (same : n ≡ length (trimmed (tableIn t .marks))) where
-    pub marks-more : (b₂ : List ℕ) (d v : ℕ) → k < n → n ≤ 64 → v ≡ mark (tableIn t) (k + 1) → Numbered b at (tableIn t .marks) b₁ k d
-        → Wrote b₁ b₂ d (bytes (v ∷ [])) e → Numbered b at (tableIn t .marks) b₂ (k + 1) e
-    unfolding nth
-    marks-more b₂ d v l f m w x =
-        number-more b at (tableIn t .marks) b₁ b₂ k d e v (omega (arith, h .shaped .marked)) (rw add-one at m) w x
-
-    pub marks-all : k ≤ n → n ≤ k → Numbered b at (tableIn t .marks) b₁ k e → Wrote b b₁ at (marksBody (tableIn t .marks)) e
-    marks-all l m w =
-        let all : k ≡ length (trimmed (tableIn t .marks)) = omega arith in
-        rw (← trimmed-take (tableIn t .marks), ← all) (w .wrote)
-
-  module _ (s : Server) (same : n ≡ length (s .log)) where
-    pub log-more : (b₂ : List ℕ) (d v : ℕ) → k < n → v ≡ termAt (s .log) (k + 1) → Numbered b at (terms (s .log)) b₁ k d
-        → Wrote b₁ b₂ d (bytes (v ∷ [])) e → Numbered b at (terms (s .log)) b₂ (k + 1) e
-    unfolding nth
-    log-more b₂ d v l m w x =
-        let many = length-map (s .log) (λ (e : Entry). e .term) in
-        number-more b at (terms (s .log)) b₁ b₂ k d e v (omega (arith, many))
-        (rw add-one at m ∙ sym (List·getD-map (λ (e : Entry). e .term) (s .log) k (entry 0))) w x
-
-    pub log-all : n ≤ k → Numbered b at (terms (s .log)) b₁ k e → Wrote b b₁ at (bytes (terms (s .log))) e
-    log-all m w =
-        let many = length-map (s .log) (λ (e : Entry). e .term) in
-        rw (take-all k (terms (s .log)) (omega (arith, many))) at (w .wrote)
+  log-words : (s : ℕ) → Within t s → take (length (server (tableIn t) s .log)) (drop (rowWords * s + 6) (words t)) ≡ terms (server (tableIn t) s .log)
+  log-words s w =
+      let f = frame h w in
+      let a = server (tableIn t) s in
+      rw (← drop-drop 6 (rowWords * s) (words t), open-row h w .laid, drop-at (f .before) (row a ++ f .after) (rowWords * s) (f .place))
+      (log-terms (a .log) (f .after) (its-room s h .short))
 
 -- ---- a server
 
-pub figures-wrote : (b b₁ b₂ b₃ b₄ b₅ : List ℕ) (x y z u v : ℕ) (a : Row) → a .role < 256 → Wrote b b₁ 0 (half (a .role)) x
-    → Wrote b₁ b₂ x (half (a .set)) y → Wrote b₂ b₃ y (bytes (a .term .0 ∷ [])) z → Wrote b₃ b₄ z (bytes (a .version .0 ∷ [])) u
-    → Wrote b₄ b₅ u (bytes (a .config .0 ∷ [])) v → Wrote b b₅ 0 (figuresBody a) v
+pub figures-wrote : (b b₁ b₂ b₃ b₄ b₅ : List ℕ) (x y z u v : ℕ) (f : Figures) → f .role < 256 → Wrote b b₁ 0 (half (f .role)) x
+    → Wrote b₁ b₂ x (half (f .set)) y → Wrote b₂ b₃ y (bytes (f .term .0 ∷ [])) z → Wrote b₃ b₄ z (bytes (f .version .0 ∷ [])) u
+    → Wrote b₄ b₅ u (bytes (f .config .0 ∷ [])) v → Wrote b b₅ 0 (serverBody (figured f [])) v
 unfolding bytes
-figures-wrote b b₁ b₂ b₃ b₄ b₅ x y z u v a h p q r s w =
-    let low : a .role % 256 ≡ a .role = omega arith in
-    let high : a .role / 256 % 256 ≡ 0 = omega arith in
+figures-wrote b b₁ b₂ b₃ b₄ b₅ x y z u v f h p q r s w =
+    let low : f .role % 256 ≡ f .role = omega arith in
+    let high : f .role / 256 % 256 ≡ 0 = omega arith in
     then (then (then (then (rw (low, high) at p) q) r) s) w
 
-pub log-position : (t : List ℕ) (s k n : ℕ) → Savable t → n ≡ length (server (tableIn t) s .log) → k < n → k + 1 ≤ 64
-log-position t s k n h e l = omega (arith, its-room s (h .held) .short)
-
-pub figures-room : (b : List ℕ) (s : Server) → length (serverBody s) ≤ length b → 16 ≤ length b
+pub figures-room : (b : List ℕ) (s : Server) → length (serverBody s) ≤ length b → figureBytes ≤ length b
 figures-room b s h = omega (arith, length-body s)
 
-module _ (t : List ℕ) (s : ℕ) (a : Row) (e : a ≡ seen (server (tableIn t) s)) where
-  pub role-small : Savable t → a .role < 256
-  role-small h = rw e (h .roles s)
+module _ (t : List ℕ) (s : ℕ) (a : Row) (e : a ≡ seen (server (tableIn t) s)) (h : Savable t) where
+  pub role-small : a .figures .role < 256
+  role-small = rw e (h .roles s)
 
-  pub log-length : a .length .0 ≡ length (server (tableIn t) s .log)
-  log-length = rw e
+  -- the log stands in the slice, and has room in the part
+  pub log-there : Within t s → 4 * (rowWords * s + 6 + a .length .0) ≤ tableBytes
+  log-there w = rw e (omega (arith, w .known, h .held .shaped .few, its-room s (h .held) .short))
 
-  pub log-room : (b b₁ : List ℕ) (d : ℕ) → d ≡ 16 → length b₁ ≡ length b → length (serverBody (server (tableIn t) s)) ≤ length b
+  pub log-room : (b b₁ : List ℕ) (d : ℕ) → d ≡ figureBytes → length b₁ ≡ length b → length (serverBody (server (tableIn t) s)) ≤ length b
       → d + 4 * a .length .0 ≤ length b₁
-  log-room b b₁ d z l h = omega (arith, log-length, length-body (server (tableIn t) s))
+  log-room b b₁ d z l f = rw e (omega (arith, length-body (server (tableIn t) s)))
 
-  pub server-wrote : (b b₁ b₂ : List ℕ) (d z : ℕ) → Wrote b b₁ 0 (figuresBody a) d → Wrote b₁ b₂ d (bytes (terms (server (tableIn t) s .log))) z
-      → Wrote b b₂ 0 (serverBody (server (tableIn t) s)) z
+  pub server-wrote : (b b₁ b₂ : List ℕ) (d z : ℕ) → Within t s → Wrote b b₁ 0 (serverBody (figured (a .figures) [])) d
+      → Wrote b₁ b₂ d (bytes (take (a .length .0) (drop (rowWords * s + 6) (words t)))) z → Wrote b b₂ 0 (serverBody (server (tableIn t) s)) z
   unfolding bytes
-  server-wrote b b₁ b₂ d z w x = then (rw e at w) x
+  server-wrote b b₁ b₂ d z w x y = then (rw e at x) (rw (e, log-words t (h .held) s w) at y)
 
 -- ---- a body
 
@@ -137,18 +116,19 @@ server-body t (suc s) h = List·getD-map serverBody (t .servers) s absent
 pub marks-size : (t : Table) (e n : ℕ) → e < 1 → n ≡ length (trimmed (t .marks)) → 4 * n ≡ length (bodyOf t e)
 marks-size t e n z h = rw (marks-body t e z, length-bytes (trimmed (t .marks))) (omega arith)
 
-pub server-size : (t : Table) (e n : ℕ) → 1 ≤ e → n ≡ length (server t e .log) → 16 + 4 * n ≡ length (bodyOf t e)
+pub server-size : (t : Table) (e n : ℕ) → 1 ≤ e → n ≡ length (server t e .log) → figureBytes + 4 * n ≡ length (bodyOf t e)
 server-size t e n h l = rw (server-body t e h) (omega (arith, length-body (server t e)))
 
 module _ (b : List ℕ) (t : Table) (e : ℕ) where
-  pub marks-fit : e < 1 → length (bodyOf t e) ≤ length b → length (marksBody (t .marks)) ≤ length b
-  marks-fit z h = omega (arith, ap length (marks-body t e z))
+  pub marks-fit : (n : ℕ) → e < 1 → n ≡ length (trimmed (t .marks)) → length (bodyOf t e) ≤ length b → 0 + 4 * n ≤ length b
+  marks-fit n z m h = omega (arith, marks-size t e n z m)
 
   pub server-fits : 1 ≤ e → length (bodyOf t e) ≤ length b → length (serverBody (server t e)) ≤ length b
   server-fits z h = omega (arith, ap length (server-body t e z))
 
-  pub marks-put : (b' : List ℕ) (r : ℕ) → e < 1 → Wrote b b' 0 (marksBody (t .marks)) r → Wrote b b' 0 (bodyOf t e) r
-  marks-put b' r z w = rw (marks-body t e z) w
-
   pub server-put : (b' : List ℕ) (r : ℕ) → 1 ≤ e → Wrote b b' 0 (serverBody (server t e)) r → Wrote b b' 0 (bodyOf t e) r
   server-put b' r z w = rw (server-body t e z) w
+
+pub marks-put : (t b b' : List ℕ) (e n r : ℕ) → Savable t → e < 1 → n ≡ length (trimmed (tableIn t .marks)) → n ≤ positions
+    → Wrote b b' 0 (bytes (take n (drop 6 (words t)))) r → Wrote b b' 0 (bodyOf (tableIn t) e) r
+marks-put t b b' e n r h z m l w = rw (marks-body (tableIn t) e z, ← marks-words t (h .held) n m l) w

@@ -10,7 +10,7 @@ use lib.Dec.{T, leb, eqb, eqb→eq}
 use lib.ListN.{length, getD, take, drop, length-append, length-drop, length-map, List·getD-append, List·getD-map}
 use lib.Seq.{take-all, take-add, getD-drop, getD-at, length-take-le}
 use Rattle.words.proofs.Tests.{Passes, both, refuted, equal, three}
-use Rattle.algorithm.specs.Table.{absent}
+use Rattle.algorithm.specs.Table.{absent, positions}
 use Rattle.words.specs.Lists.{every}
 use Rattle.words.proofs.RefusalLaws.{none-hold}
 use Rattle.words.specs.Words.{half}
@@ -81,7 +81,7 @@ module _ (im slice : List ℕ) (e : readReply im slice ≡ 0) (byte : Bytes im) 
       let (_, all) = both {a = leb (firstBody n) (length im)} (found .1) in
       let here = all-below (n + 1) (laid im) all k (omega arith) in
       let (place, sized, _) = three (eqb (offset im k) (start im k)) (mayHave k (size im k)) (leb (stop im k) (length im)) (here .yes) in
-      let (_, _, four) = three (leb (fixed k) (size im k)) (leb (size im k) (fixed k + 256)) (eqb (size im k % 4) 0) sized in
+      let (_, _, four) = three (leb (fixed k) (size im k)) (leb (size im k) (fixed k + 4 * positions)) (eqb (size im k % 4) 0) sized in
       (eqb→eq (offset im k) (start im k) place, eqb→eq (size im k % 4) 0 four)
 
   module _ (k : ℕ) (l : k ≤ n) where

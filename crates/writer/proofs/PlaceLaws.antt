@@ -7,12 +7,12 @@ use mathlib.Core.Path.{_≡_, refl, ap, sym, _∙_}
 use mathlib.Core.List.{List, [], _∷_, _++_, append-assoc, append-nil, flatten}
 use lib.ListN.{length, getD, take, drop, length-append, length-drop, length-map}
 use lib.Seq.{take-all}
-use Rattle.algorithm.specs.Table.{Table, absent, count}
+use Rattle.algorithm.specs.Table.{Table, absent, count, positions, mostServers}
 use Rattle.words.specs.Words.{half}
 use Rattle.table.specs.Layout.{tableIn}
 use Rattle.buffer.specs.Buffer.{Wrote}
 use Rattle.buffer.proofs.WroteLaws.{wrote-none, sized, then, part, part-wrote}
-use Rattle.image.specs.Contents.{firstBody}
+use Rattle.image.specs.Contents.{firstBody, figureBytes}
 use Rattle.image.specs.Image.{opening, serverBody, bodies, contents, image}
 use Rattle.image.proofs.ImageLaws.{length-contents}
 use Rattle.writer.specs.Written.{bodyOf, Savable}
@@ -58,18 +58,18 @@ length-image t =
 -- body e begins at a place
 pub record Placed (t : Table) (e at : ℕ) : Type 0 where
   pub offset : at ≡ firstBody (count t) + length (flatten (take e (bodies t)))
-  pub small : at ≤ 76 + 272 * e
+  pub small : at ≤ firstBody mostServers + (figureBytes + 4 * positions) * e
 
-module _ (t : List ℕ) (n : ℕ) (h : Savable t) (c : n ≡ count (tableIn t)) where
-  pub few-servers : n ≤ 16
-  few-servers = omega (arith, h .held .shaped .few)
+module _ (t : List ℕ) (n : ℕ) (c : n ≡ count (tableIn t)) where
+  pub few-servers : Savable t → n ≤ mostServers
+  few-servers h = omega (arith, h .held .shaped .few)
 
-  pub placed-none : Placed (tableIn t) 0 (12 + 4 * n)
+  pub placed-none : (at : ℕ) → Savable t → at ≡ firstBody n → Placed (tableIn t) 0 at
   unfolding flatten
-  placed-none = record { offset = omega arith; small = omega (arith, h .held .shaped .few) }
+  placed-none at h f = record { offset = omega arith; small = omega (arith, h .held .shaped .few) }
 
   module _ (e at : ℕ) (p : Placed (tableIn t) e at) where
-    pub placed-more : (v : ℕ) → e ≤ n → v ≡ length (bodyOf (tableIn t) e) → v ≤ 272 → Placed (tableIn t) (e + 1) (at + v)
+    pub placed-more : (v : ℕ) → e ≤ n → v ≡ length (bodyOf (tableIn t) e) → v ≤ figureBytes + 4 * positions → Placed (tableIn t) (e + 1) (at + v)
     placed-more v l s m =
         let bs = bodies (tableIn t) in
         let longer = flatten-more (serverBody absent) bs e (omega (arith, many (tableIn t))) in

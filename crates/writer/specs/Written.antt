@@ -3,8 +3,6 @@ use Prim.Native.Nat.{ℕ, _<_}
 use mathlib.Core.List.{List}
 use lib.ListN.{getD}
 use Rattle.algorithm.specs.Table.{Table, absent, server}
-use Rattle.table.specs.Figures.{figured}
-use Rattle.table.specs.declared.rows.Row.{Row}
 use Rattle.table.specs.Layout.{tableIn}
 use Rattle.table.specs.Slice.{Held}
 use Rattle.image.specs.Image.{serverBody, bodies}
@@ -12,10 +10,6 @@ use Rattle.image.specs.Image.{serverBody, bodies}
 -- body e of a table's image: 0 is that of the marks, s that of server s
 abbrev pub bodyOf : Table → ℕ → List ℕ
 bodyOf t e = getD (bodies t) e (serverBody absent)
-
--- what a server's body has before its log: the body of a server with these figures and an empty log
-abbrev pub figuresBody : Row → List ℕ
-figuresBody a = serverBody (figured (a .role) (a .term .0) (a .set) (a .version .0) (a .config .0))
 
 -- the slice holds a table, each of whose roles is a byte
 pub record Savable (b : List ℕ) : Type 0 where

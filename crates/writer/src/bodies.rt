@@ -2,21 +2,24 @@
 ghost use mathlib.Core.Path.{_≡_};
 ghost use mathlib.Core.List.{[], _∷_};
 ghost use Prim.Native.Nat.{_+_, _*_, _≤_, _<_};
-ghost use lib.ListN.{length};
+ghost use lib.ListN.{length, take, drop};
+ghost use Rattle.words.specs.Words.{half, words, bytes};
 ghost use Rattle.algorithm.specs.Table.{count, server, positions};
-ghost use Rattle.words.specs.Words.{half, bytes};
-ghost use Rattle.table.specs.Layout.{terms, tableIn};
+ghost use Rattle.table.specs.Figures.{figured};
+ghost use Rattle.table.specs.Layout.{tableBytes, tableIn};
 ghost use Rattle.table.specs.Slice.{Within};
 ghost use Rattle.buffer.specs.Buffer.{Wrote};
-ghost use Rattle.image.specs.Image.{marksBody, serverBody};
-ghost use Rattle.writer.specs.Written.{bodyOf, figuresBody, Savable};
-use algorithm::Position;
+ghost use Rattle.image.specs.Contents.{figureBytes};
+ghost use Rattle.image.specs.Image.{serverBody};
+ghost use Rattle.writer.specs.Written.{bodyOf, Savable};
 use buffer::put_byte;
+use buffer::put_word;
+use image::contents::FIGURE_BYTES;
+use table::figures::Figures;
 use table::marks::marked;
-use table::rows::Row;
-use table::rows::entry_of;
+use table::rows::LOG;
+use table::rows::ROW;
 use table::rows::length_of;
-use table::rows::mark_of;
 use table::rows::row_of;
 
 // The two low bytes of a number.
@@ -41,57 +44,37 @@ fn put_number(buffer: &mut [u8], at: usize, v: u32) -> usize
 pub fn size_of(t: &[u8], e: usize) -> usize
     requires { ⌜ Savable (now t) ⌝ }
     requires { ⌜ e ≤ count (tableIn (now t)) ⌝ }
-    ensures { λ r. ⌜ (r ≡ length (bodyOf (tableIn (now (t .entry))) e)) × (r ≤ 16 + 4 * positions) ⌝ }
+    ensures { λ r. ⌜ (r ≡ length (bodyOf (tableIn (now (t .entry))) e)) × (r ≤ figureBytes + 4 * positions) ⌝ }
 {
     if 1 <= e {
-        return 16 + 4 * (length_of(t, e).0 as usize);
+        return FIGURE_BYTES + 4 * (length_of(t, e).0 as usize);
     }
     4 * (marked(t) as usize)
 }
 
-fn put_marks(part: &mut [u8], t: &[u8]) -> usize
-    requires { ⌜ Savable (now t) ⌝ }
-    requires { ⌜ length (marksBody (tableIn (now t) .marks)) ≤ length (now part) ⌝ }
-    ensures { λ r. ⌜ Wrote (now (part .entry)) (now (part .exit)) 0 (marksBody (tableIn (now (t .entry)) .marks)) r ⌝ }
+// The n words from word k of a table's slice: marks and entries stand in an image as they do in a table.
+fn put_words(part: &mut [u8], at: usize, t: &[u8], k: usize, n: usize) -> usize
+    requires { ⌜ length (now t) ≡ tableBytes ⌝ }
+    requires { ⌜ 4 * (k + n) ≤ tableBytes ⌝ }
+    requires { ⌜ at + 4 * n ≤ length (now part) ⌝ }
+    ensures { λ r. ⌜ Wrote (now (part .entry)) (now (part .exit)) at (bytes (take n (drop k (words (now (t .entry)))))) r ⌝ }
 {
-    let shown = marked(t);
-    let mut end = 0;
-    let mut k: u8 = 0;
-    while k < shown {
-        k += 1;
-        end = put_number(part, end, mark_of(t, Position(k)).0);
-    }
-    end
+    let from = 4 * k;
+    let to = from + 4 * n;
+    put_word(part, at, &t[from..to])
 }
 
 // The figures of a server, all that its body has before its log. The role and the 0 behind it are one number of two bytes.
-fn put_figures(part: &mut [u8], a: Row) -> usize
-    requires { ⌜ a .role < 256 ⌝ }
-    requires { ⌜ 16 ≤ length (now part) ⌝ }
-    ensures { λ r. ⌜ Wrote (now (part .entry)) (now (part .exit)) 0 (figuresBody a) r × (r ≡ 16) ⌝ }
+fn put_figures(part: &mut [u8], f: Figures) -> usize
+    requires { ⌜ f .role < 256 ⌝ }
+    requires { ⌜ figureBytes ≤ length (now part) ⌝ }
+    ensures { λ r. ⌜ Wrote (now (part .entry)) (now (part .exit)) 0 (serverBody (figured f [])) r × (r ≡ figureBytes) ⌝ }
 {
-    let end = put_half(part, 0, a.role as usize);
-    let end = put_half(part, end, a.set as usize);
-    let end = put_number(part, end, a.term.0);
-    let end = put_number(part, end, a.version.0);
-    put_number(part, end, a.config.0)
-}
-
-// The n entries of the log of server s.
-fn put_log(part: &mut [u8], at: usize, t: &[u8], s: usize, n: u8) -> usize
-    requires { ⌜ Savable (now t) ⌝ }
-    requires { ⌜ Within (now t) s ⌝ }
-    requires { ⌜ n ≡ length (server (tableIn (now t)) s .log) ⌝ }
-    requires { ⌜ at + 4 * n ≤ length (now part) ⌝ }
-    ensures { λ r. ⌜ Wrote (now (part .entry)) (now (part .exit)) at (bytes (terms (server (tableIn (now (t .entry))) s .log))) r ⌝ }
-{
-    let mut end = at;
-    let mut k: u8 = 0;
-    while k < n {
-        k += 1;
-        end = put_number(part, end, entry_of(t, s, Position(k)).0);
-    }
-    end
+    let end = put_half(part, 0, f.role as usize);
+    let end = put_half(part, end, f.set as usize);
+    let end = put_number(part, end, f.term.0);
+    let end = put_number(part, end, f.version.0);
+    put_number(part, end, f.config.0)
 }
 
 fn put_server(part: &mut [u8], t: &[u8], s: usize) -> usize
@@ -101,8 +84,9 @@ fn put_server(part: &mut [u8], t: &[u8], s: usize) -> usize
     ensures { λ r. ⌜ Wrote (now (part .entry)) (now (part .exit)) 0 (serverBody (server (tableIn (now (t .entry))) s)) r ⌝ }
 {
     let a = row_of(t, s);
-    let end = put_figures(part, a);
-    put_log(part, end, t, s, a.length.0)
+    let end = put_figures(part, a.figures);
+    let n = a.length.0 as usize;
+    put_words(part, end, t, ROW * s + LOG, n)
 }
 
 // Body e, at the start of the part.
@@ -115,5 +99,6 @@ pub fn put_body(part: &mut [u8], t: &[u8], e: usize) -> usize
     if 1 <= e {
         return put_server(part, t, e);
     }
-    put_marks(part, t)
+    let n = marked(t) as usize;
+    put_words(part, 0, t, LOG, n)
 }

@@ -16,6 +16,7 @@ use crate::bodies::put_half;
 use crate::bodies::size_of;
 use buffer::put_byte;
 use buffer::put_word;
+use image::contents::first_body;
 use table::rows::count_of;
 use whole::is_whole;
 
@@ -27,7 +28,7 @@ fn image_length(t: &[u8]) -> usize
     ensures { λ r. ⌜ r ≡ length (imageOf (now (t .entry))) ⌝ }
 {
     let n = count_of(t) as usize;
-    let mut at = 12 + 4 * n;
+    let mut at = first_body(n);
     let mut e: usize = 0;
     while e <= n {
         at += size_of(t, e);
@@ -53,7 +54,7 @@ fn put_contents(buffer: &mut [u8], from: usize, t: &[u8]) -> usize
 {
     let n = count_of(t) as usize;
     let mut end = from;
-    let mut at = 12 + 4 * n;
+    let mut at = first_body(n);
     let mut e: usize = 0;
     while e <= n {
         let size = size_of(t, e);

@@ -1,13 +1,14 @@
 -- `writer::put_bodies` meets its contract. Assumes nothing.
 use Prim.Native.Nat.{_+_, _-_, _≤_}
 use borrow.Author.Needs.{needs}
+use Rattle.algorithm.specs.Table.{mostServers}
 use Rattle.table.specs.Layout.{tableIn}
 use Rattle.writer.proofs.PlaceLaws.{Bodied, few-servers, bodied-none, body-start, body-room, bodied-more, bodied-all}
 use Rattle.writer.proofs.put_bodies.Statement.{statement}
 use Rattle.writer.proofs.put_bodies.Tie as tie
 
 abbrev Inv-loop : tie.InvT-loop
-Inv-loop buffer₀ from t n at₀ e₀ buffer at e = (e ≤ n + 1) × (n ≤ 16) × Bodied (tableIn t) buffer₀ from buffer e at
+Inv-loop buffer₀ from t n at₀ e₀ buffer at e = (e ≤ n + 1) × (n ≤ mostServers) × Bodied (tableIn t) buffer₀ from buffer e at
 
 abbrev μ-loop : tie.MeasureT-loop
 μ-loop buffer₀ from t n at₀ e₀ buffer at e = n + 1 - e

@@ -1,13 +1,14 @@
 -- `writer::put_contents` meets its contract. Assumes nothing.
 use Prim.Native.Nat.{_+_, _-_, _≤_}
 use borrow.Author.Needs.{needs}
+use Rattle.algorithm.specs.Table.{mostServers}
 use Rattle.table.specs.Layout.{tableIn}
 use Rattle.writer.proofs.PlaceLaws.{Placed, few-servers, placed-none, placed-more, Entered, entered-none, entered-more, entered-all}
 use Rattle.writer.proofs.put_contents.Statement.{statement}
 use Rattle.writer.proofs.put_contents.Tie as tie
 
 abbrev Inv-loop : tie.InvT-loop
-Inv-loop buffer₀ from t n end₀ at₀ e₀ buffer end at e = (e ≤ n + 1) × (n ≤ 16) × Placed (tableIn t) e at × Entered (tableIn t) buffer₀ from buffer e end
+Inv-loop buffer₀ from t n end₀ at₀ e₀ buffer end at e = (e ≤ n + 1) × (n ≤ mostServers) × Placed (tableIn t) e at × Entered (tableIn t) buffer₀ from buffer e end
 
 abbrev μ-loop : tie.MeasureT-loop
 μ-loop buffer₀ from t n end₀ at₀ e₀ buffer end at e = n + 1 - e
@@ -18,11 +19,8 @@ count-of-requires c κs = search needs
 cast-n : tie.Need-cast-n Inv-loop μ-loop
 cast-n c = search needs
 
-mul-at : tie.Need-mul-at Inv-loop μ-loop
-mul-at c = search needs
-
-add-at : tie.Need-add-at Inv-loop μ-loop
-add-at c = search needs
+first-body-requires : tie.Need-first-body-requires Inv-loop μ-loop
+first-body-requires c κs = search needs
 
 loop-holds : tie.Need-loop-holds Inv-loop μ-loop
 loop-holds c = (search needs, search (needs, few-servers), search (needs, placed-none), entered-none _ _ _ (search needs))
@@ -36,8 +34,8 @@ put-half-requires c κs = search needs
 put-half-requires-2 : tie.Need-put-half-requires-2 Inv-loop μ-loop
 put-half-requires-2 c κs = search needs
 
-add-at-2 : tie.Need-add-at-2 Inv-loop μ-loop
-add-at-2 c = search needs
+add-at : tie.Need-add-at Inv-loop μ-loop
+add-at c = search needs
 
 add-e : tie.Need-add-e Inv-loop μ-loop
 add-e c = search needs
@@ -52,10 +50,10 @@ loop-again c =
     let sized = first .before .before in
     let turn = sized .before in
     let (_, _, placed, entered) = turn .before .loop .inv in
-    let counted = turn .before .before .count-of .ensures in (
+    let counted = turn .before .before .before .count-of .ensures in (
       search needs,
       search needs,
-      search (needs, placed-more),
+      placed-more _ _ counted _ _ placed _ (turn .loop-test .taken) (sized .size-of .ensures .0) (sized .size-of .ensures .1),
       entered-more _ _ _ _ _ _ _ counted entered _ _ _ _ _ _ (turn .loop-test .taken) placed (sized .size-of .ensures .0) (first .put-half .ensures) (second .put-half2 .ensures),
     )
 
@@ -73,13 +71,12 @@ put-contents-spec =
     μ-loop
     count-of-requires
     cast-n
-    mul-at
-    add-at
+    first-body-requires
     loop-holds
     size-of-requires
     put-half-requires
     put-half-requires-2
-    add-at-2
+    add-at
     add-e
     loop-less
     loop-again

@@ -11,7 +11,7 @@ row-of-requires : tie.Need-row-of-requires
 row-of-requires c κs = search needs
 
 add-version : tie.Need-add-version
-add-version c = omega (arith, ap (λ (a : Row). a .version .0) (c .before .row-of .ensures))
+add-version c = omega (arith, ap (λ (a : Row). a .figures .version .0) (c .before .row-of .ensures .0))
 
 put-config-requires : tie.Need-put-config-requires
 put-config-requires c κs = search needs

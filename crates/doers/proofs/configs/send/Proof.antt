@@ -7,6 +7,9 @@ use Rattle.doers.proofs.configs.send.Tie as tie
 row-of-requires : tie.Need-row-of-requires
 row-of-requires c κs = search needs
 
+cast-put-config : tie.Need-cast-put-config
+cast-put-config c = search needs
+
 put-config-requires : tie.Need-put-config-requires
 put-config-requires c κs = search needs
 
@@ -17,4 +20,4 @@ returns : tie.Need-returns
 returns c = search (needs, send-put)
 
 pub send-spec : {M : Type 1} → statement M
-send-spec = tie.close (tie.spec row-of-requires put-config-requires same-length returns)
+send-spec = tie.close (tie.spec row-of-requires cast-put-config put-config-requires same-length returns)

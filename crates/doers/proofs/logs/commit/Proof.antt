@@ -10,7 +10,7 @@ row-of-requires c κs = search needs
 
 put-mark-requires : tie.Need-put-mark-requires
 put-mark-requires c κs =
-    let here = last-position _ _ _ (c .before .row-of .ensures) (search needs) (search needs) in
+    let here = last-position _ _ _ (c .before .row-of .ensures .0) (search needs) (search needs) in
     (search needs, (omega arith, omega arith))
 
 same-length : tie.Need-same-length

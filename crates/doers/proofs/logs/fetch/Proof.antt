@@ -11,11 +11,11 @@ row-of-requires : tie.Need-row-of-requires
 row-of-requires c κs = search needs
 
 add-next : tie.Need-add-next
-add-next c = omega (arith, ap (λ (a : Row). a .length .0) (c .before .row-of .ensures))
+add-next c = omega (arith, ap (λ (a : Row). a .length .0) (c .before .row-of .ensures .0))
 
 entry-of-requires : tie.Need-entry-of-requires
 entry-of-requires c κs =
-    let here = ap (λ (a : Row). a .length .0) (c .before .before .row-of .ensures) in
+    let here = ap (λ (a : Row). a .length .0) (c .before .before .row-of .ensures .0) in
     (search needs, (search needs, (omega arith, omega arith)))
 
 push-requires : tie.Need-push-requires

@@ -5,31 +5,27 @@ use Rattle.reader.proofs.FillLaws.{marks-named, blank-marks, marks-unre
 use Rattle.reader.proofs.fill.fill.Statement.{statement}
 use Rattle.reader.proofs.fill.fill.Tie as tie
 
-shared-slice-read-fill-blank : tie.Need-shared-slice-read-fill-blank
-shared-slice-read-fill-blank c = search needs
+body-of-requires : tie.Need-body-of-requires
+body-of-requires c κs = search (needs, marks-named)
 
-fill-blank-requires : tie.Need-fill-blank-requires
-fill-blank-requires c κs = search needs
-
-fill-marks-requires : tie.Need-fill-marks-requires
-fill-marks-requires c κs = (search (needs, held), (search (needs, blank-marks), search (needs, marks-named)))
+put-marks-requires : tie.Need-put-marks-requires
+put-marks-requires c κs = (search (needs, held), (search (needs, blank-marks), search needs))
 
 fill-servers-requires : tie.Need-fill-servers-requires
-fill-servers-requires c κs = (search (needs, marks-unread), search needs)
-
-same-length : tie.Need-same-length
-same-length c = search needs
-
-returns : tie.Need-returns
-returns c = search needs
+fill-servers-requires c κs =
+    let marked = c .before .before .before in
+    let read = marked .before in
+    let blank = read .before .before .before .before in
+    (marks-unread _ _ _ _ (blank .fill-blank .ensures) (read .body-of .ensures .0) (marked .put-marks .ensures), search needs)
 
 pub fill-spec : {M : Type 1} → statement M
 fill-spec =
     tie.close
     (tie.spec
-    shared-slice-read-fill-blank
-    fill-blank-requires
-    fill-marks-requires
+    (λ c. search needs)
+    (λ c κs. search needs)
+    body-of-requires
+    put-marks-requires
     fill-servers-requires
-    same-length
-    returns)
+    (λ c. search needs)
+    (λ c. search needs))

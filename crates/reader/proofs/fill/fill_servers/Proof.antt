@@ -1,8 +1,9 @@
 -- `reader::fill::fill_servers` meets its contract. Assumes nothing.
-use borrow.Author.Needs.{needs}
 use Prim.Native.Nat.{_-_}
+use native.Mathlib.Omega.{arith}
+use borrow.Author.Needs.{needs}
 use Rattle.table.proofs.HeldLaws.{held}
-use Rattle.image.proofs.BodyLaws.{name-next}
+use Rattle.image.proofs.BodyLaws.{name-next, server-sized}
 use Rattle.reader.proofs.FillLaws.{Filled, filled-none, filled-within, filled-empty, filled-more, filled-all}
 use Rattle.reader.proofs.fill.fill_servers.Statement.{statement}
 use Rattle.reader.proofs.fill.fill_servers.Tie as tie
@@ -13,26 +14,20 @@ Inv-loop t₀ image n s₀ t s = Filled image t s
 abbrev μ-loop : tie.MeasureT-loop
 μ-loop t₀ image n s₀ t s = n - s
 
-count-of-requires : tie.Need-count-of-requires Inv-loop μ-loop
-count-of-requires c κs = search needs
-
 loop-holds : tie.Need-loop-holds Inv-loop μ-loop
 loop-holds c = search (needs, filled-none)
 
-add-s : tie.Need-add-s Inv-loop μ-loop
-add-s c = search needs
+body-of-requires : tie.Need-body-of-requires Inv-loop μ-loop
+body-of-requires c κs = search (needs, name-next)
 
-fill-server-requires : tie.Need-fill-server-requires Inv-loop μ-loop
-fill-server-requires c κs = (search (needs, held), (search (needs, filled-within), (search (needs, filled-empty), search (needs, name-next))))
-
-loop-less : tie.Need-loop-less Inv-loop μ-loop
-loop-less c = search needs
+put-server-requires : tie.Need-put-server-requires Inv-loop μ-loop
+put-server-requires c κs = (
+  search (needs, held),
+  (search (needs, filled-within), (search (needs, filled-empty), server-sized _ _ (c .body-of .ensures .1) (omega arith))),
+)
 
 loop-again : tie.Need-loop-again Inv-loop μ-loop
 loop-again c = search (needs, filled-more)
-
-same-length : tie.Need-same-length Inv-loop μ-loop
-same-length c = search needs
 
 returns : tie.Need-returns Inv-loop μ-loop
 returns c = search (needs, filled-all)
@@ -43,11 +38,12 @@ fill-servers-spec =
     (tie.spec
     Inv-loop
     μ-loop
-    count-of-requires
+    (λ c κs. search needs)
     loop-holds
-    add-s
-    fill-server-requires
-    loop-less
+    (λ c. search needs)
+    body-of-requires
+    put-server-requires
+    (λ c. search needs)
     loop-again
-    same-length
+    (λ c. search needs)
     returns)

@@ -4,14 +4,11 @@ use Rattle.buffer.proofs.FieldLaws.{six-fields}
 use Rattle.report.proofs.parts.put_figures.Statement.{statement}
 use Rattle.report.proofs.parts.put_figures.Tie as tie
 
-cast-put-three : tie.Need-cast-put-three
-cast-put-three c = search needs
-
 put-three-requires : tie.Need-put-three-requires
 put-three-requires c κs = search needs
 
-cast-put-three-2 : tie.Need-cast-put-three-2
-cast-put-three-2 c = search needs
+cast-put-three : tie.Need-cast-put-three
+cast-put-three c = search needs
 
 put-three-requires-2 : tie.Need-put-three-requires-2
 put-three-requires-2 c κs = search needs
@@ -26,9 +23,8 @@ pub put-figures-spec : {M : Type 1} → statement M
 put-figures-spec =
     tie.close
     (tie.spec
-    cast-put-three
     put-three-requires
-    cast-put-three-2
+    cast-put-three
     put-three-requires-2
     same-length
     returns)

@@ -7,7 +7,7 @@ row-of-requires : tie.Need-row-of-requires
 row-of-requires c κs = search needs
 
 returns : tie.Need-returns
-returns c = rw (c .before .row-of .ensures)
+returns c = rw (c .before .row-of .ensures .0)
 
 pub last-of-spec : {M : Type 1} → statement M
 last-of-spec = tie.close (tie.spec row-of-requires returns)

@@ -36,7 +36,7 @@ returns c =
     let set = term .before .before .before .before in
     let role = set .before .before .before .before .before in
     let start = role .before .before .before .before in (
-      figures-wrote _ _ _ _ _ _ _ _ _ _ _ (start .args .a) (start .pre .0) (role .put-half .ensures) (set .put-half2 .ensures) (term .put-number .ensures .0) (version .put-number2 .ensures .0) (config .put-number3 .ensures .0),
+      figures-wrote _ _ _ _ _ _ _ _ _ _ _ (start .args .f) (start .pre .0) (role .put-half .ensures) (set .put-half2 .ensures) (term .put-number .ensures .0) (version .put-number2 .ensures .0) (config .put-number3 .ensures .0),
       search needs,
     )
 
