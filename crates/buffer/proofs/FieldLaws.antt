@@ -1,14 +1,14 @@
 -- Laws of numbers written in a row. Assumes nothing.
-use Prim.Native.Nat.{ℕ, _+_, _≤_}
+use Prim.Native.Nat.{ℕ, _+_, _*_, _≤_}
 use native.Mathlib.Omega.{arith}
 use mathlib.Core.Path.{_≡_, refl, ap, sym, _∙_}
 use mathlib.Core.List.{List, [], _∷_, _++_, append-assoc, append-nil}
 use lib.ListN.{length}
-use Rattle.buffer.specs.Texts.{text, decimal, field, fields}
+use Rattle.buffer.specs.Texts.{text, decimal, numberRoom, field, fieldRoom, fields}
 use Rattle.buffer.specs.Buffer.{Wrote, WroteShort}
 use Rattle.buffer.proofs.WroteLaws.{wrote-none, then}
 
-pub a-field : (b b₁ b₂ : List ℕ) (at d e v : ℕ) → Wrote b b₁ at (text " ") d → WroteShort 10 b₁ b₂ d (decimal v) e → WroteShort 11 b b₂ at (field v) e
+pub a-field : (b b₁ b₂ : List ℕ) (at d e v : ℕ) → Wrote b b₁ at (text " ") d → WroteShort numberRoom b₁ b₂ d (decimal v) e → WroteShort fieldRoom b b₂ at (field v) e
 unfolding field
 a-field b b₁ b₂ at d e v s w = record { wrote = then s (w .wrote); short = omega (arith, s .end, w .short) }
 
@@ -31,11 +31,11 @@ more-fields l k f g = record { wrote = rw (fields-append l k) (then (f .wrote) (
 
 -- ---- the figures of a row
 
-pub three-fields : (b b₁ b₂ b₃ : List ℕ) (at c d e x y z : ℕ) → WroteShort 11 b b₁ at (field x) c → WroteShort 11 b₁ b₂ c (field y) d
-    → WroteShort 11 b₂ b₃ d (field z) e → WroteShort 33 b b₃ at (fields (x ∷ y ∷ z ∷ [])) e
+pub three-fields : (b b₁ b₂ b₃ : List ℕ) (at c d e x y z : ℕ) → WroteShort fieldRoom b b₁ at (field x) c → WroteShort fieldRoom b₁ b₂ c (field y) d
+    → WroteShort fieldRoom b₂ b₃ d (field z) e → WroteShort (3 * fieldRoom) b b₃ at (fields (x ∷ y ∷ z ∷ [])) e
 three-fields b b₁ b₂ b₃ at c d e x y z f g h =
     more-fields (x ∷ y ∷ []) (z ∷ []) (more-fields (x ∷ []) (y ∷ []) (one-field x f) (one-field y g)) (one-field z h)
 
-pub six-fields : (b b₁ b₂ : List ℕ) (at d e x y z u v w : ℕ) → WroteShort 33 b b₁ at (fields (x ∷ y ∷ z ∷ [])) d
-    → WroteShort 33 b₁ b₂ d (fields (u ∷ v ∷ w ∷ [])) e → WroteShort 66 b b₂ at (fields (x ∷ y ∷ z ∷ u ∷ v ∷ w ∷ [])) e
+pub six-fields : (b b₁ b₂ : List ℕ) (at d e x y z u v w : ℕ) → WroteShort (3 * fieldRoom) b b₁ at (fields (x ∷ y ∷ z ∷ [])) d
+    → WroteShort (3 * fieldRoom) b₁ b₂ d (fields (u ∷ v ∷ w ∷ [])) e → WroteShort (6 * fieldRoom) b b₂ at (fields (x ∷ y ∷ z ∷ u ∷ v ∷ w ∷ [])) e
 six-fields b b₁ b₂ at d e x y z u v w f g = more-fields (x ∷ y ∷ z ∷ []) (u ∷ v ∷ w ∷ []) f g
