@@ -1,12 +1,13 @@
 // The parts that single lines have: a reply, the head and the figures of a row, the marks.
 ghost use mathlib.Core.List.{[], _∷_, _++_};
-ghost use Prim.Native.Nat.{_+_, _≤_};
+ghost use Prim.Native.Nat.{_+_, _*_, _≤_};
 ghost use lib.ListN.{length, take};
 ghost use Rattle.algorithm.specs.Table.{positions};
 ghost use Rattle.table.specs.Layout.{tableIn};
 ghost use Rattle.table.specs.Slice.{Held};
-ghost use Rattle.buffer.specs.Texts.{text, field, fields};
+ghost use Rattle.buffer.specs.Texts.{text, field, fieldRoom, fields};
 ghost use Rattle.report.specs.Lines.{reply, letter, figures};
+ghost use Rattle.report.specs.Rooms.{replyRoom, letterRoom, headRoom, figuresRoom, marksRoom};
 ghost use Rattle.buffer.specs.Buffer.{WroteShort};
 use algorithm::PRIMARY;
 use algorithm::Position;
@@ -16,8 +17,8 @@ use table::rows::Row;
 use table::rows::mark_of;
 
 pub(crate) fn put_reply(buffer: &mut [u8], at: usize, r: u8) -> usize
-    requires { ⌜ at + 19 ≤ length (now buffer) ⌝ }
-    ensures { λ e. ⌜ WroteShort 19 (now (buffer .entry)) (now (buffer .exit)) at (reply r) e ⌝ }
+    requires { ⌜ at + replyRoom ≤ length (now buffer) ⌝ }
+    ensures { λ e. ⌜ WroteShort replyRoom (now (buffer .entry)) (now (buffer .exit)) at (reply r) e ⌝ }
 {
     if r == 0 {
         return put_word(buffer, at, b" taken");
@@ -27,8 +28,8 @@ pub(crate) fn put_reply(buffer: &mut [u8], at: usize, r: u8) -> usize
 }
 
 fn put_role(buffer: &mut [u8], at: usize, role: u32) -> usize
-    requires { ⌜ at + 2 ≤ length (now buffer) ⌝ }
-    ensures { λ e. ⌜ WroteShort 2 (now (buffer .entry)) (now (buffer .exit)) at (letter role) e ⌝ }
+    requires { ⌜ at + letterRoom ≤ length (now buffer) ⌝ }
+    ensures { λ e. ⌜ WroteShort letterRoom (now (buffer .entry)) (now (buffer .exit)) at (letter role) e ⌝ }
 {
     if role == PRIMARY {
         return put_word(buffer, at, b" P");
@@ -37,8 +38,8 @@ fn put_role(buffer: &mut [u8], at: usize, role: u32) -> usize
 }
 
 pub(crate) fn put_head(buffer: &mut [u8], at: usize, s: u8, role: u32) -> usize
-    requires { ⌜ at + 16 ≤ length (now buffer) ⌝ }
-    ensures { λ e. ⌜ WroteShort 16 (now (buffer .entry)) (now (buffer .exit)) at (text "row" ++ field s ++ letter role) e ⌝ }
+    requires { ⌜ at + headRoom ≤ length (now buffer) ⌝ }
+    ensures { λ e. ⌜ WroteShort headRoom (now (buffer .entry)) (now (buffer .exit)) at (text "row" ++ field s ++ letter role) e ⌝ }
 {
     let end = put_word(buffer, at, b"row");
     let end = put_field(buffer, end, s as u32);
@@ -47,8 +48,8 @@ pub(crate) fn put_head(buffer: &mut [u8], at: usize, s: u8, role: u32) -> usize
 
 // Three numbers: six calls in a row are more than the prover's search goes through.
 fn put_three(buffer: &mut [u8], at: usize, x: u32, y: u32, z: u32) -> usize
-    requires { ⌜ at + 33 ≤ length (now buffer) ⌝ }
-    ensures { λ e. ⌜ WroteShort 33 (now (buffer .entry)) (now (buffer .exit)) at (fields (x ∷ y ∷ z ∷ [])) e ⌝ }
+    requires { ⌜ at + 3 * fieldRoom ≤ length (now buffer) ⌝ }
+    ensures { λ e. ⌜ WroteShort (3 * fieldRoom) (now (buffer .entry)) (now (buffer .exit)) at (fields (x ∷ y ∷ z ∷ [])) e ⌝ }
 {
     let end = put_field(buffer, at, x);
     let end = put_field(buffer, end, y);
@@ -56,8 +57,8 @@ fn put_three(buffer: &mut [u8], at: usize, x: u32, y: u32, z: u32) -> usize
 }
 
 pub(crate) fn put_figures(buffer: &mut [u8], at: usize, a: Row) -> usize
-    requires { ⌜ at + 66 ≤ length (now buffer) ⌝ }
-    ensures { λ e. ⌜ WroteShort 66 (now (buffer .entry)) (now (buffer .exit)) at (fields (figures a)) e ⌝ }
+    requires { ⌜ at + figuresRoom ≤ length (now buffer) ⌝ }
+    ensures { λ e. ⌜ WroteShort figuresRoom (now (buffer .entry)) (now (buffer .exit)) at (fields (figures a)) e ⌝ }
 {
     let end = put_three(buffer, at, a.term.0, a.set as u32, a.version.0);
     put_three(buffer, end, a.config.0, a.length.0 as u32, a.last.0)
@@ -67,8 +68,8 @@ pub(crate) fn put_figures(buffer: &mut [u8], at: usize, a: Row) -> usize
 pub(crate) fn put_marks(buffer: &mut [u8], at: usize, t: &[u8], n: u8) -> usize
     requires { ⌜ Held (now t) ⌝ }
     requires { ⌜ n ≤ positions ⌝ }
-    requires { ⌜ at + 704 ≤ length (now buffer) ⌝ }
-    ensures { λ e. ⌜ WroteShort 704 (now (buffer .entry)) (now (buffer .exit)) at (fields (take n (tableIn (now (t .entry)) .marks))) e ⌝ }
+    requires { ⌜ at + marksRoom ≤ length (now buffer) ⌝ }
+    ensures { λ e. ⌜ WroteShort marksRoom (now (buffer .entry)) (now (buffer .exit)) at (fields (take n (tableIn (now (t .entry)) .marks))) e ⌝ }
 {
     let mut end = at;
     let mut k: u8 = 0;
