@@ -58,12 +58,12 @@ module _ {A : Type 0} (n : ℕ) (line : ℕ → A → List ℕ) (l : List A) (b 
       let same : k + suc i ≡ suc k + i = omega arith in
       rw same (ap (λ (m : List (List ℕ)). line k x ∷ m) (numbered-next d (suc k) i l (omega arith)))
 
-  pub lined-more : (d : A) (b₁ b₂ : List ℕ) (k c e : ℕ) → Lined n line l b at b₁ k c → k < length l
+  pub lined-more : (d : A) (b₁ b₂ : List ℕ) (k m c e : ℕ) → Lined n line l b at b₁ k c → k < m → m ≤ length l
       → WroteShort n b₁ b₂ c (line (k + 1) (getD l k d)) e → Lined n line l b at b₂ (k + 1) e
-  lined-more d b₁ b₂ k c e v h w =
+  lined-more d b₁ b₂ k m c e v f g w =
       let here : k + 1 ≡ 1 + k = omega arith in
       let next = more-lines (numbered line 1 (take k l)) (line (1 + k) (getD l k d) ∷ []) (v .wrote) (one-line (rw here at w)) in
-      record { long = sized (w .wrote) ∙ v .long; wrote = rw (add-one, mul-suc, numbered-next d 1 k l h) next }
+      record { long = sized (w .wrote) ∙ v .long; wrote = rw (add-one, mul-suc, numbered-next d 1 k l (omega arith)) next }
 
   pub lined-all : (b₁ : List ℕ) (k m e : ℕ) → k ≤ m → m ≤ k → Lined n line l b at b₁ k e
       → WroteShort (n * m) b b₁ at (flatten (numbered line 1 (take m l))) e
@@ -77,7 +77,7 @@ module _ (b b₁ t : List ℕ) (at d s n : ℕ) (c : n ≡ count (tableIn t)) (v
   unfolding nth
   rows-more b₂ e a l f w =
       let mine : a ≡ seen (server (tableIn t) (suc s)) = rw add-one at f in
-      lined-more rowRoom rowLine (tableIn t .servers) b at absent b₁ b₂ s d e v (omega arith) (rw mine at w)
+      lined-more rowRoom rowLine (tableIn t .servers) b at absent b₁ b₂ s n d e v l (omega arith) (rw mine at w)
 
   pub rows-all : Held t → s ≤ n → n ≤ s → WroteShort rowsRoom b b₁ at (flatten (rowLines (tableIn t .servers))) d
   rows-all h l m =

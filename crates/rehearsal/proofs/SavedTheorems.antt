@@ -1,0 +1,37 @@
+-- What the contract of `save` amounts to. Assumes nothing.
+use Prim.Native.Nat.{ℕ, _≤_}
+use mathlib.Core.Bool.{false}
+use mathlib.Core.Path.{_≡_, refl, ap, sym, _∙_}
+use mathlib.Core.List.{List, _++_}
+use lib.ListN.{length, take, drop}
+use lib.Seq.{take-append-seam}
+use Rattle.algorithm.specs.Table.{Table, broken}
+use Rattle.algorithm.specs.Run.{run}
+use Rattle.image.specs.Image.{image}
+use Rattle.buffer.specs.Buffer.{Wrote}
+use Rattle.buffer.proofs.WroteUnique.{wrote-unique}
+use Rattle.rehearsal.specs.declared.Saved.{Saved}
+use Rattle.rehearsal.specs.Printed.{longest}
+use Rattle.rehearsal.specs.Saved.{Written, toOutput, toError, saved, onOutput, onError, bytesOf, answerOf, SaveAnswer, sentOutput, sentError}
+use Rattle.rehearsal.proofs.PrintedTheorems.{image-opened}
+
+-- Two answers that meet the contract for one input and one buffer are the same answer.
+pub save-unique : {input b b₁ b₂ : List ℕ} {r₁ r₂ : Saved} → SaveAnswer input b r₁ b₁ → SaveAnswer input b r₂ b₂ → (r₁ ≡ r₂) × (b₁ ≡ b₂)
+save-unique h k = (h .answer ∙ sym (k .answer), wrote-unique (h .wrote) (k .wrote) .1)
+
+-- What an answer that meets the contract has the program write is, on each stream, what the definition says.
+pub save-sent : {input b b' : List ℕ} {r : Saved} → SaveAnswer input b r b'
+    → (sentOutput r b' ≡ onOutput (saved input)) × (sentError r b' ≡ onError (saved input))
+save-sent {input} {b} {b'} h = rw (h .answer) (go (saved input) (h .wrote))
+  where
+    begins : (l : List ℕ) → Wrote b b' 0 l (length l) → take (length l) b' ≡ l
+    begins l w = ap (take (length l)) (w .bytes) ∙ take-append-seam l (drop (length l) b)
+
+    go : (w : Written) → Wrote b b' 0 (bytesOf w) (length (bytesOf w)) → (sentOutput (answerOf w) b' ≡ onOutput w) × (sentError (answerOf w) b' ≡ onError w)
+    go (toOutput l) w = (begins l w, refl)
+    go (toError l) w = (refl, begins l w)
+
+-- Of an input that begins with the image of a table, the image of the table that the bytes behind it leave is saved.
+pub image-saved : (t : Table) (p : List ℕ) → broken t ≡ false → length (image t ++ p) ≤ longest → saved (image t ++ p) ≡ toOutput (image (run t p .table))
+unfolding saved
+image-saved t p h small = let (sound, table, rest) = image-opened t p h small in rw (sound, table, rest)
