@@ -4,13 +4,15 @@ use mathlib.Core.Bool.{false}
 use mathlib.Core.Path.{_≡_, refl, ap, sym, _∙_}
 use mathlib.Core.List.{List, _++_}
 use lib.ListN.{length, take, drop}
-use lib.Seq.{take-append-seam}
+use lib.Seq.{take-append-seam, length-take-le}
 use Rattle.algorithm.specs.Table.{Table, broken}
 use Rattle.algorithm.specs.Run.{run}
 use Rattle.image.specs.Image.{image}
 use Rattle.buffer.specs.Buffer.{Wrote}
+use Rattle.buffer.proofs.WroteLaws.{wrote-within}
 use Rattle.buffer.proofs.WroteUnique.{wrote-unique}
 use Rattle.rehearsal.specs.declared.Saved.{Saved}
+use Rattle.rehearsal.specs.declared.Saved.the-variants.{Image, Told}
 use Rattle.rehearsal.specs.Printed.{longest}
 use Rattle.rehearsal.specs.Saved.{Written, toOutput, toError, saved, onOutput, onError, bytesOf, answerOf, SaveAnswer, sentOutput, sentError}
 use Rattle.rehearsal.proofs.PrintedTheorems.{image-opened}
@@ -30,6 +32,31 @@ save-sent {input} {b} {b'} h = rw (h .answer) (go (saved input) (h .wrote))
     go : (w : Written) → Wrote b b' 0 (bytesOf w) (length (bytesOf w)) → (sentOutput (answerOf w) b' ≡ onOutput w) × (sentError (answerOf w) b' ≡ onError w)
     go (toOutput l) w = (begins l w, refl)
     go (toError l) w = (refl, begins l w)
+
+-- What main lends of the buffer is within it, and as long as the answer says.
+abbrev countOf : Saved → ℕ
+countOf (Image n) = n
+countOf (Told n) = n
+
+module _ (input b : List ℕ) (r : Saved) (b' : List ℕ) (h : SaveAnswer input b r b') (n : ℕ) where
+  within : countOf r ≤ length b'
+  within = rw (h .answer) (go (saved input) (h .wrote))
+    where
+      go : (w : Written) → Wrote b b' 0 (bytesOf w) (length (bytesOf w)) → countOf (answerOf w) ≤ length b'
+      go (toOutput l) w = wrote-within b b' 0 l (length l) w
+      go (toError l) w = wrote-within b b' 0 l (length l) w
+
+  pub image-within : r ≡ Image n → n ≤ length b'
+  image-within e = rw e at within
+
+  pub image-lent : r ≡ Image n → n ≡ length (take n b')
+  image-lent e = sym (length-take-le n b' (image-within e))
+
+  pub told-within : r ≡ Told n → n ≤ length b'
+  told-within e = rw e at within
+
+  pub told-lent : r ≡ Told n → n ≡ length (take n b')
+  told-lent e = sym (length-take-le n b' (told-within e))
 
 -- Of an input that begins with the image of a table, the image of the table that the bytes behind it leave is saved.
 pub image-saved : (t : Table) (p : List ℕ) → broken t ≡ false → length (image t ++ p) ≤ longest → saved (image t ++ p) ≡ toOutput (image (run t p .table))
