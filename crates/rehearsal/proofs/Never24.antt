@@ -11,7 +11,8 @@ use lib.ListN.{length, getD, take, drop}
 use lib.Seq.{getD-append-add, take-at}
 use borrow.Author.Tests.{lt-ltb, le-ltb, ne-eqb}
 use mir.Facts.{and-yes, eqb-no}
-use Rattle.algorithm.specs.Table.{Table, Server, trimmed, broken, fresh}
+use Rattle.words.proofs.Choice.{cond-elim}
+use Rattle.algorithm.specs.Table.{Table, Server, broken, fresh}
 use Rattle.algorithm.specs.Run.{pieces, pieceCount, Ran, play, run}
 use Rattle.algorithm.proofs.Runs.{play-sound, play-append}
 use Rattle.algorithm.proofs.Demands.{not-given-24}
@@ -92,19 +93,12 @@ fields-plain (x ∷ l) = rw (plain-append (field x) (fields l), field-plain x, f
 
 cuts-plain : (p : List ℕ) → plain (flatten (cutLines p)) ≡ true
 unfolding cutLines cutLine flatten plain
-cuts-plain p = go (eqb (length p % 8) 0) (length p / 8 + 1)
-  where
-    go : (b : Bool) (k : ℕ) → plain (flatten (cond b [] (cutLine k ∷ []))) ≡ true
-    go true k = refl
-    go false k = simp (append-nil, plain-append, decimal-plain)
+cuts-plain p =
+    cond-elim (λ (l : List (List ℕ)). plain (flatten l) ≡ true) (eqb (length p % 8) 0) (λ _. refl) (λ _. simp (append-nil, plain-append, decimal-plain))
 
 letter-plain : (r : ℕ) → plain (letter r) ≡ true
 unfolding letter plain
-letter-plain r = go (eqb r 1)
-  where
-    go : (b : Bool) → plain (cond b (text " P") (text " S")) ≡ true
-    go true = refl
-    go false = refl
+letter-plain r = cond-elim (λ (l : List ℕ). plain l ≡ true) (eqb r 1) (λ _. refl) (λ _. refl)
 
 rows-plain : (k : ℕ) (ss : List Server) → plain (flatten (numbered rowLine k ss)) ≡ true
 unfolding numbered flatten shownRow plain

@@ -8,7 +8,7 @@ use lib.ListN.{length, getD, take, drop, replicate, length-replicate}
 use lib.Seq.{length-take-le, take-at}
 use borrow.Author.Tests.{eq-eqb, ne-eqb}
 use Rattle.algorithm.specs.Table.{broken}
-use Rattle.algorithm.specs.Run.{pieces, pieceCount, runTo, run}
+use Rattle.algorithm.specs.Run.{pieces, pieceCount, run}
 use Rattle.algorithm.proofs.Runs.{play-sound, replies-count}
 use Rattle.table.specs.Layout.{stored, tableIn, whole}
 use Rattle.table.proofs.HeldLaws.{its-table, held}

@@ -6,16 +6,18 @@ use mathlib.Core.List.{List, _++_}
 use lib.ListN.{length, take, drop}
 use lib.Seq.{take-append-seam, length-take-le}
 use Rattle.algorithm.specs.Table.{Table, broken}
-use Rattle.algorithm.specs.Run.{run}
+use Rattle.algorithm.specs.Run.{pieces, pieceCount, run}
+use Rattle.algorithm.proofs.Runs.{play-sound}
 use Rattle.image.specs.Image.{image}
 use Rattle.buffer.specs.Buffer.{Wrote}
 use Rattle.buffer.proofs.WroteLaws.{wrote-within}
 use Rattle.buffer.proofs.WroteUnique.{wrote-unique}
+use Rattle.report.specs.Report.{playedLines}
 use Rattle.rehearsal.specs.declared.Saved.{Saved}
 use Rattle.rehearsal.specs.declared.Saved.the-variants.{Image, Told}
-use Rattle.rehearsal.specs.Printed.{longest}
+use Rattle.rehearsal.specs.Printed.{longest, inputLines}
 use Rattle.rehearsal.specs.Saved.{Written, toOutput, toError, saved, onOutput, onError, bytesOf, answerOf, SaveAnswer, sentOutput, sentError}
-use Rattle.rehearsal.proofs.PrintedTheorems.{image-opened}
+use Rattle.rehearsal.proofs.PrintedTheorems.{image-opened, image-lines}
 
 -- Two answers that meet the contract for one input and one buffer are the same answer.
 pub save-unique : {input b b₁ b₂ : List ℕ} {r₁ r₂ : Saved} → SaveAnswer input b r₁ b₁ → SaveAnswer input b r₂ b₂ → (r₁ ≡ r₂) × (b₁ ≡ b₂)
@@ -62,3 +64,9 @@ module _ (input b : List ℕ) (r : Saved) (b' : List ℕ) (h : SaveAnswer input 
 pub image-saved : (t : Table) (p : List ℕ) → broken t ≡ false → length (image t ++ p) ≤ longest → saved (image t ++ p) ≡ toOutput (image (run t p .table))
 unfolding saved
 image-saved t p h small = let (sound, table, rest) = image-opened t p h small in rw (sound, table, rest)
+
+-- So what was saved in the evening, with the plan of the morning behind it, is rehearsed from the table that the evening left.
+pub next-morning : (t : Table) (p q : List ℕ) → broken t ≡ false → length (image t ++ p) ≤ longest → length (image (run t p .table) ++ q) ≤ longest
+    → inputLines (onOutput (saved (image t ++ p)) ++ q) ≡ playedLines (run t p .table) q
+next-morning t p q h small most =
+    rw (image-saved t p h small) (image-lines (run t p .table) q (play-sound t (pieces (pieceCount p) p) h) most)
