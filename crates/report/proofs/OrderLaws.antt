@@ -13,7 +13,7 @@ use Rattle.table.specs.Layout.{tableIn}
 use Rattle.table.specs.Slice.{Held, seen}
 use Rattle.table.specs.declared.rows.Row.{Row}
 use Rattle.buffer.specs.Buffer.{WroteShort}
-use Rattle.buffer.proofs.WroteLaws.{wrote-none, sized, then}
+use Rattle.buffer.proofs.WroteLaws.{wrote-none, sized, then-short}
 use Rattle.report.specs.Lines.{shownRow, rowLine, marksLine}
 use Rattle.report.specs.Report.{numbered, rowLines, tableLines}
 use Rattle.report.specs.Rooms.{rowRoom, marksLineRoom, rowsRoom, tableRoom}
@@ -31,11 +31,11 @@ no-lines n b at h = record { wrote = wrote-none b at h; short = omega arith }
 
 pub one-line : {n at e : ℕ} {b b₁ l : List ℕ} → WroteShort n b b₁ at l e → WroteShort n b b₁ at (flatten (l ∷ [])) e
 unfolding flatten
-one-line {l = l} w = record { wrote = rw (append-nil l) (w .wrote); short = w .short }
+one-line {l = l} w = rw (append-nil l) w
 
 pub more-lines : {n m at d e : ℕ} {b b₁ b₂ : List ℕ} (l k : List (List ℕ)) → WroteShort n b b₁ at (flatten l) d
     → WroteShort m b₁ b₂ d (flatten k) e → WroteShort (n + m) b b₂ at (flatten (l ++ k)) e
-more-lines l k v w = record { wrote = rw (flatten-append l k) (then (v .wrote) (w .wrote)); short = omega (arith, v .short, w .short) }
+more-lines l k v w = rw (flatten-append l k) (then-short v w)
 
 -- ---- a line for each thing in a list
 
