@@ -6,7 +6,7 @@ use mathlib.Core.Path.{_≡_}
 use mathlib.Core.List.{List, [], _∷_, _++_}
 use lib.ListN.{length, length-append}
 use borrow.Author.Tests.{lt-ltb, le-ltb}
-use Rattle.buffer.specs.Texts.{digits, decimal}
+use Rattle.buffer.specs.Texts.{digits, decimal, numberRoom}
 use Rattle.buffer.specs.Buffer.{Wrote, WroteShort}
 use Rattle.buffer.proofs.WroteLaws.{sized, then}
 
@@ -43,17 +43,17 @@ decimal-short (suc k) n h =
 -- ---- digits put one behind another
 
 module _ (b b₁ : List ℕ) (at e : ℕ) where
-  pub one-digit : (v : ℕ) → v < 10 → Wrote b b₁ at ((48 + v) ∷ []) e → WroteShort 10 b b₁ at (decimal v) e
+  pub one-digit : (v : ℕ) → v < 10 → Wrote b b₁ at ((48 + v) ∷ []) e → WroteShort numberRoom b b₁ at (decimal v) e
   one-digit v h w = record { wrote = rw (decimal-small v h) w; short = omega (arith, w .end) }
 
   -- nine digits at most leave room for a tenth
-  nine : (x : ℕ) → x < 10 ^ 9 → Wrote b b₁ at (decimal x) e → e < at + 10
+  nine : (x : ℕ) → x < 10 ^ 9 → Wrote b b₁ at (decimal x) e → e < at + numberRoom
   nine x h w = omega (arith, w .end, decimal-short 8 x h)
 
-  pub last-room : (x : ℕ) → x < 10 ^ 9 → at + 10 ≤ length b → Wrote b b₁ at (decimal x) e → e < length b₁
+  pub last-room : (x : ℕ) → x < 10 ^ 9 → at + numberRoom ≤ length b → Wrote b b₁ at (decimal x) e → e < length b₁
   last-room x h l w = omega (arith, nine x h w, sized w)
 
   pub last-digit : (b₂ : List ℕ) (r v : ℕ) → v < 2 ^ 32 → 10 ≤ v → Wrote b b₁ at (decimal (v / 10)) e
-      → Wrote b₁ b₂ e ((48 + v % 10) ∷ []) r → WroteShort 10 b b₂ at (decimal v) r
+      → Wrote b₁ b₂ e ((48 + v % 10) ∷ []) r → WroteShort numberRoom b b₂ at (decimal v) r
   last-digit b₂ r v h l w d =
       record { wrote = rw (decimal-large v l) (then w d); short = omega (arith, d .end, nine (v / 10) (omega arith) w) }

@@ -1,16 +1,15 @@
 -- Laws of numbers written in a row. Assumes nothing.
-use Prim.Native.Nat.{ℕ, _+_, _≤_}
-use native.Mathlib.Omega.{arith}
+use Prim.Native.Nat.{ℕ, _+_, _*_, _≤_}
 use mathlib.Core.Path.{_≡_, refl, ap, sym, _∙_}
 use mathlib.Core.List.{List, [], _∷_, _++_, append-assoc, append-nil}
 use lib.ListN.{length}
-use Rattle.buffer.specs.Texts.{text, decimal, field, fields}
+use Rattle.buffer.specs.Texts.{text, decimal, numberRoom, field, fieldRoom, fields}
 use Rattle.buffer.specs.Buffer.{Wrote, WroteShort}
-use Rattle.buffer.proofs.WroteLaws.{wrote-none, then}
+use Rattle.buffer.proofs.WroteLaws.{wrote-none, exact, then-short}
 
-pub a-field : (b b₁ b₂ : List ℕ) (at d e v : ℕ) → Wrote b b₁ at (text " ") d → WroteShort 10 b₁ b₂ d (decimal v) e → WroteShort 11 b b₂ at (field v) e
+pub a-field : (b b₁ b₂ : List ℕ) (at d e v : ℕ) → Wrote b b₁ at (text " ") d → WroteShort numberRoom b₁ b₂ d (decimal v) e → WroteShort fieldRoom b b₂ at (field v) e
 unfolding field
-a-field b b₁ b₂ at d e v s w = record { wrote = then s (w .wrote); short = omega (arith, s .end, w .short) }
+a-field b b₁ b₂ at d e v s w = then-short (exact s) w
 
 fields-append : (l m : List ℕ) → fields (l ++ m) ≡ fields l ++ fields m
 unfolding fields
@@ -19,23 +18,23 @@ fields-append (x ∷ l) m = ap (λ (r : List ℕ). field x ++ r) (fields-append 
 
 pub no-fields : (b : List ℕ) (at : ℕ) → at ≤ length b → WroteShort 0 b b at (fields []) at
 unfolding fields
-no-fields b at h = record { wrote = wrote-none b at h; short = omega arith }
+no-fields b at h = exact (wrote-none b at h)
 
 pub one-field : {n at e : ℕ} {b b₁ : List ℕ} (x : ℕ) → WroteShort n b b₁ at (field x) e → WroteShort n b b₁ at (fields (x ∷ [])) e
 unfolding fields
-one-field x f = record { wrote = rw (append-nil (field x)) (f .wrote); short = f .short }
+one-field x f = rw (append-nil (field x)) f
 
 pub more-fields : {n m at d e : ℕ} {b b₁ b₂ : List ℕ} (l k : List ℕ) → WroteShort n b b₁ at (fields l) d → WroteShort m b₁ b₂ d (fields k) e
     → WroteShort (n + m) b b₂ at (fields (l ++ k)) e
-more-fields l k f g = record { wrote = rw (fields-append l k) (then (f .wrote) (g .wrote)); short = omega (arith, f .short, g .short) }
+more-fields l k f g = rw (fields-append l k) (then-short f g)
 
 -- ---- the figures of a row
 
-pub three-fields : (b b₁ b₂ b₃ : List ℕ) (at c d e x y z : ℕ) → WroteShort 11 b b₁ at (field x) c → WroteShort 11 b₁ b₂ c (field y) d
-    → WroteShort 11 b₂ b₃ d (field z) e → WroteShort 33 b b₃ at (fields (x ∷ y ∷ z ∷ [])) e
+pub three-fields : (b b₁ b₂ b₃ : List ℕ) (at c d e x y z : ℕ) → WroteShort fieldRoom b b₁ at (field x) c → WroteShort fieldRoom b₁ b₂ c (field y) d
+    → WroteShort fieldRoom b₂ b₃ d (field z) e → WroteShort (3 * fieldRoom) b b₃ at (fields (x ∷ y ∷ z ∷ [])) e
 three-fields b b₁ b₂ b₃ at c d e x y z f g h =
     more-fields (x ∷ y ∷ []) (z ∷ []) (more-fields (x ∷ []) (y ∷ []) (one-field x f) (one-field y g)) (one-field z h)
 
-pub six-fields : (b b₁ b₂ : List ℕ) (at d e x y z u v w : ℕ) → WroteShort 33 b b₁ at (fields (x ∷ y ∷ z ∷ [])) d
-    → WroteShort 33 b₁ b₂ d (fields (u ∷ v ∷ w ∷ [])) e → WroteShort 66 b b₂ at (fields (x ∷ y ∷ z ∷ u ∷ v ∷ w ∷ [])) e
+pub six-fields : (b b₁ b₂ : List ℕ) (at d e x y z u v w : ℕ) → WroteShort (3 * fieldRoom) b b₁ at (fields (x ∷ y ∷ z ∷ [])) d
+    → WroteShort (3 * fieldRoom) b₁ b₂ d (fields (u ∷ v ∷ w ∷ [])) e → WroteShort (6 * fieldRoom) b b₂ at (fields (x ∷ y ∷ z ∷ u ∷ v ∷ w ∷ [])) e
 six-fields b b₁ b₂ at d e x y z u v w f g = more-fields (x ∷ y ∷ z ∷ []) (u ∷ v ∷ w ∷ []) f g

@@ -6,7 +6,7 @@ use mathlib.Core.Path.{_≡_, ap, sym, _∙_}
 use mathlib.Core.List.{List, [], _∷_, _++_, append-assoc, append-nil}
 use lib.ListN.{length, take, drop, set, length-append, length-drop, take-append-drop}
 use lib.Seq.{length-take-le, take-all, take-at, drop-drop, drop-length, drop-append-add, set-split}
-use Rattle.buffer.specs.Buffer.{Wrote}
+use Rattle.buffer.specs.Buffer.{Wrote, WroteShort}
 
 -- ---- at one place
 
@@ -50,6 +50,14 @@ module _ {b b₁ : List ℕ} {at e : ℕ} {l : List ℕ} (w : Wrote b b₁ at l 
         room = omega (arith, v .room, sized);
         bytes = v .bytes ∙ rw (before, v .end, behind (length m)) (simp append-assoc);
       }
+
+-- ---- with a bound
+
+pub exact : {at e : ℕ} {b b₁ l : List ℕ} → Wrote b b₁ at l e → WroteShort (length l) b b₁ at l e
+exact w = record { wrote = w; short = omega (arith, w .end) }
+
+pub then-short : {n m at d e : ℕ} {b b₁ b₂ l k : List ℕ} → WroteShort n b b₁ at l d → WroteShort m b₁ b₂ d k e → WroteShort (n + m) b b₂ at (l ++ k) e
+then-short v w = record { wrote = then (v .wrote) (w .wrote); short = omega (arith, v .short, w .short) }
 
 -- ---- in a part of the buffer, `&mut buffer[at..]`
 

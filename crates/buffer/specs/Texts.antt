@@ -23,9 +23,17 @@ digits (suc k) n =
 unfoldable pub decimal : ℕ → List ℕ
 decimal n = digits (suc n) n
 
+-- room for any number of 32 bits in decimal
+abbrev pub numberRoom : ℕ
+numberRoom = 10
+
 -- a number behind a space
 unfoldable pub field : ℕ → List ℕ
 field n = text " " ++ decimal n
+
+-- room for it
+abbrev pub fieldRoom : ℕ
+fieldRoom = 1 + numberRoom
 
 -- numbers in a row, each behind a space
 unfoldable pub fields : List ℕ → List ℕ

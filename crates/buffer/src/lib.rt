@@ -2,7 +2,7 @@
 ghost use mathlib.Core.List.{[], _∷_};
 ghost use Prim.Native.Nat.{_+_, _≤_, _<_};
 ghost use lib.ListN.{length};
-ghost use Rattle.buffer.specs.Texts.{decimal, field};
+ghost use Rattle.buffer.specs.Texts.{decimal, numberRoom, field, fieldRoom};
 ghost use Rattle.buffer.specs.Buffer.{Wrote, WroteShort};
 use bytes::copy;
 
@@ -31,8 +31,8 @@ fn put_digit(buffer: &mut [u8], at: usize, d: u32) -> usize
 
 // The digits before the last are put first, as the definition has them, so that none is counted or turned around; the calls go ten deep at most.
 pub fn put_decimal(buffer: &mut [u8], at: usize, v: u32) -> usize
-    requires { ⌜ at + 10 ≤ length (now buffer) ⌝ }
-    ensures { λ r. ⌜ WroteShort 10 (now (buffer .entry)) (now (buffer .exit)) at (decimal v) r ⌝ }
+    requires { ⌜ at + numberRoom ≤ length (now buffer) ⌝ }
+    ensures { λ r. ⌜ WroteShort numberRoom (now (buffer .entry)) (now (buffer .exit)) at (decimal v) r ⌝ }
 {
     if v < 10 {
         return put_digit(buffer, at, v);
@@ -42,8 +42,8 @@ pub fn put_decimal(buffer: &mut [u8], at: usize, v: u32) -> usize
 }
 
 pub fn put_field(buffer: &mut [u8], at: usize, v: u32) -> usize
-    requires { ⌜ at + 11 ≤ length (now buffer) ⌝ }
-    ensures { λ r. ⌜ WroteShort 11 (now (buffer .entry)) (now (buffer .exit)) at (field v) r ⌝ }
+    requires { ⌜ at + fieldRoom ≤ length (now buffer) ⌝ }
+    ensures { λ r. ⌜ WroteShort fieldRoom (now (buffer .entry)) (now (buffer .exit)) at (field v) r ⌝ }
 {
     let end = put_byte(buffer, at, b' ');
     put_decimal(buffer, end, v)

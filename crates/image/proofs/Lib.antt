@@ -2,3 +2,4 @@
 pub mod ContentsLaws
 pub mod BodyLaws
 pub mod ImageLaws
+pub mod LongestImage

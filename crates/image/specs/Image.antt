@@ -1,8 +1,8 @@
 -- The image of a table: the opening, the contents, the bodies. Assumes nothing.
-use Prim.Native.Nat.{ℕ, _+_}
+use Prim.Native.Nat.{ℕ, _+_, _*_}
 use mathlib.Core.List.{List, [], _∷_, _++_, map, flatten}
 use lib.ListN.{length}
-use Rattle.algorithm.specs.Table.{Server, Table, count, trimmed}
+use Rattle.algorithm.specs.Table.{Server, Table, count, trimmed, positions, mostServers}
 use Rattle.words.specs.Words.{half, bytes}
 use Rattle.table.specs.Layout.{terms}
 use Rattle.image.specs.Contents.{firstBody}
@@ -32,3 +32,7 @@ contents at (b ∷ bs) = half at ++ (half (length b) ++ contents (at + length b)
 -- the opening, the contents, and the bodies one after another
 unfoldable pub image : Table → List ℕ
 image t = opening (count t) ++ (contents (firstBody (count t)) (bodies t) ++ flatten (bodies t))
+
+-- the length of the longest image: that of the most servers, with every log full and a mark at the last position
+abbrev pub longestImage : ℕ
+longestImage = firstBody mostServers + 4 * positions + mostServers * (16 + 4 * positions)

@@ -1,5 +1,6 @@
--- The laws of lines in order, of the input, and what the definition of the output amounts to.
-pub mod OrderLaws
+-- The laws of played actions and of inputs, and what the definitions of the output amount to.
+pub mod PlayedLaws
 pub mod InputLaws
 pub mod PrintedTheorems
+pub mod SavedTheorems
 pub mod Never24

@@ -2,26 +2,26 @@
 use Prim.Native.Nat.{ℕ, zero, suc, _+_, _-_, _*_, _/_, _%_, _<_}
 use native.Mathlib.Decide.{decLe, decLt}
 use native.Mathlib.Omega.{arith}
-use mathlib.Core.Bool.{Bool, true, false, cond, not}
+use mathlib.Core.Bool.{Bool, true, false, cond, not, _&&_, and-assoc}
 use mathlib.Core.List.{List, [], _∷_, _++_, append-assoc, append-nil, flatten}
 use mathlib.Core.Logic.{_≢_}
-use mathlib.Core.Path.{_≡_, sym, ap, _∙_}
+use mathlib.Core.Path.{_≡_, refl, sym, ap, _∙_}
 use lib.Dec.{T, eqb}
 use lib.ListN.{length, getD, take, drop}
 use lib.Seq.{getD-append-add, take-at}
 use borrow.Author.Tests.{lt-ltb, le-ltb, ne-eqb}
 use mir.Facts.{and-yes, eqb-no}
-use Rattle.algorithm.specs.Table.{Table, Server, trimmed, broken, fresh}
-use Rattle.words.specs.Lists.{every}
+use Rattle.words.proofs.Choice.{cond-elim}
+use Rattle.algorithm.specs.Table.{Table, Server, broken, fresh}
 use Rattle.algorithm.specs.Run.{pieces, pieceCount, Ran, play, run}
 use Rattle.algorithm.proofs.Runs.{play-sound, play-append}
 use Rattle.algorithm.proofs.Demands.{not-given-24}
-use Rattle.table.specs.Slice.{seen}
 use Rattle.image.specs.Image.{image}
 use Rattle.buffer.specs.Texts.{text, digits, decimal, field, fields}
 use Rattle.buffer.specs.Buffer.{Wrote}
-use Rattle.report.specs.Lines.{reply, repliedLine, cutLine, tooLongLine, letter, figures, shownRow, rowLine, marksLine}
+use Rattle.report.specs.Lines.{reply, repliedLine, cutLine, tooLongLine, letter, shownRow, rowLine, marksLine}
 use Rattle.report.specs.Report.{numbered, repliedLines, rowLines, tableLines, wholeActions, cutLines, playedLines}
+use Rattle.report.proofs.OrderLaws.{flatten-append}
 use Rattle.rehearsal.specs.Printed.{longest, inputLines, printed}
 use Rattle.rehearsal.proofs.PrintedTheorems.{image-lines}
 
@@ -43,48 +43,75 @@ nowhere [] (d ∷ x) y h e = omega (arith, ap length e)
 nowhere (c ∷ l) [] y (here, _) e = here y e
 nowhere (c ∷ l) (d ∷ x) y (_, rest) e = nowhere l x y rest (ap (drop 1) e)
 
--- nor does it where these stand before bytes in which it does not
-abbrev Lets : List ℕ → Type 0
-Lets l = (m : List ℕ) → Without m → Without (l ++ m)
+-- ---- bytes without that letter
 
-after : (l k : List ℕ) → Lets l → Lets k → Lets (l ++ k)
-after l k f g m h = rw (append-assoc l k m) (f (k ++ m) (g m h))
+unfoldable plain : List ℕ → Bool
+plain [] = true
+plain (c ∷ l) = not (eqb c 102) && plain l
 
-byte : (c : ℕ) → c ≢ 102 → Lets (c ∷ [])
-unfolding Without
-byte c ne m h = (λ y e. ne (ap (λ (l : List ℕ). getD l 0 0) e), h)
+plain-append : (l m : List ℕ) → plain (l ++ m) ≡ plain l && plain m
+unfolding plain
+plain-append [] m = refl
+plain-append (c ∷ l) m = rw (plain-append l m) (sym (and-assoc (not (eqb c 102)) (plain l) (plain m)))
 
--- bytes without that letter
-plain : (l : List ℕ) → T (every (λ c. not (eqb c 102)) l) → Lets l
-unfolding every
-plain [] t m h = h
-plain (c ∷ l) t m h =
-    let (here, rest) = and-yes (not (eqb c 102)) (every (λ c. not (eqb c 102)) l) t in
-    byte c (eqb-no here) (l ++ m) (plain l rest m h)
+-- it does not occur where they stand before bytes in which it does not
+before : (l m : List ℕ) → plain l ≡ true → Without m → Without (l ++ m)
+unfolding plain Without
+before l m e h = go l (rw e tt)
+  where
+    go : (l : List ℕ) → T (plain l) → Without (l ++ m)
+    go [] t = h
+    go (c ∷ l) t =
+        let (here, rest) = and-yes (not (eqb c 102)) (plain l) t in
+        (λ y e. eqb-no here (ap (λ (l : List ℕ). getD l 0 0) e), go l rest)
 
--- ---- numbers
-
-digits-let : (k n : ℕ) → Lets (digits k n)
-unfolding digits
-digits-let zero n = λ m h. h
-digits-let (suc k) n =
+digits-plain : (k n : ℕ) → plain (digits k n) ≡ true
+unfolding digits plain
+digits-plain zero n = refl
+digits-plain (suc k) n =
     elim (decLt n 10) [
-      | yes s ↦ rw (lt-ltb n 10 s) (byte (48 + n) (omega arith))
-      | no s ↦ rw (le-ltb n 10 (omega arith)) (after (digits k (n / 10)) ((48 + n % 10) ∷ []) (digits-let k (n / 10)) (byte (48 + n % 10) (omega arith)))
+      | yes s ↦ rw (lt-ltb n 10 s, ne-eqb (48 + n) 102 (omega arith))
+      | no s ↦
+          rw (le-ltb n 10 (omega arith), plain-append (digits k (n / 10)) ((48 + n % 10) ∷ []), digits-plain k (n / 10))
+          (rw (ne-eqb (48 + n % 10) 102 (omega arith)))
     ]
 
-decimal-lets : (n : ℕ) → Lets (decimal n)
+decimal-plain : (n : ℕ) → plain (decimal n) ≡ true
 unfolding decimal
-decimal-lets n = digits-let (suc n) n
+decimal-plain n = digits-plain (suc n) n
 
-field-lets : (n : ℕ) → Lets (field n)
-unfolding field every
-field-lets n = after (text " ") (decimal n) (plain (text " ") tt) (decimal-lets n)
+field-plain : (n : ℕ) → plain (field n) ≡ true
+unfolding field plain
+field-plain n = decimal-plain n
 
-fields-let : (l : List ℕ) → Lets (fields l)
-unfolding fields
-fields-let [] = λ m h. h
-fields-let (x ∷ l) = after (field x) (fields l) (field-lets x) (fields-let l)
+fields-plain : (l : List ℕ) → plain (fields l) ≡ true
+unfolding fields plain
+fields-plain [] = refl
+fields-plain (x ∷ l) = rw (plain-append (field x) (fields l), field-plain x, fields-plain l)
+
+-- ---- lines without it
+
+cuts-plain : (p : List ℕ) → plain (flatten (cutLines p)) ≡ true
+unfolding cutLines cutLine flatten plain
+cuts-plain p =
+    cond-elim (λ (l : List (List ℕ)). plain (flatten l) ≡ true) (eqb (length p % 8) 0) (λ _. refl) (λ _. simp (append-nil, plain-append, decimal-plain))
+
+letter-plain : (r : ℕ) → plain (letter r) ≡ true
+unfolding letter plain
+letter-plain r = cond-elim (λ (l : List ℕ). plain l ≡ true) (eqb r 1) (λ _. refl) (λ _. refl)
+
+rows-plain : (k : ℕ) (ss : List Server) → plain (flatten (numbered rowLine k ss)) ≡ true
+unfolding numbered flatten shownRow plain
+rows-plain k [] = refl
+rows-plain k (s ∷ ss) = simp (plain-append, field-plain, letter-plain, fields-plain, rows-plain (suc k) ss)
+
+table-plain : (t : Table) → plain (flatten (tableLines t)) ≡ true
+unfolding tableLines marksLine flatten plain
+table-plain t =
+    rw (flatten-append (rowLines (t .servers)) (marksLine (t .marks) ∷ []))
+    (simp (plain-append, rows-plain 1 (t .servers), append-nil, fields-plain))
+
+-- ---- replies
 
 -- the number that digits say, up to the end of the line
 unfoldable value : ℕ → List ℕ → ℕ
@@ -108,104 +135,47 @@ value-digits (suc k) n l h =
           (value-digits k (n / 10) ((48 + n % 10) ∷ l) (omega arith) ∙ value-digit (n / 10) (n % 10) n l (omega arith) (omega arith))
     ]
 
--- ---- lines
-
-reply-lets : (r : ℕ) → r ≢ 24 → (m : List ℕ) → Without m → Without (reply r ++ (text "\n" ++ m))
-unfolding reply field decimal every Without value
-reply-lets zero ne m h = plain (text " taken\n") tt m h
-reply-lets (suc r) ne m h =
+reply-without : (r : ℕ) → r ≢ 24 → (m : List ℕ) → Without m → Without (reply r ++ (text "\n" ++ m))
+unfolding reply field decimal plain Without value
+reply-without zero ne m h = before (text " taken\n") m refl h
+reply-without (suc r) ne m h =
     let rest : List ℕ = decimal (suc r) ++ (text "\n" ++ m) in
-    plain (text " re") tt (text "fused " ++ rest) (
+    before (text " re") (text "fused " ++ rest) refl (
       λ y e. ne (sym (value-digits (suc (suc r)) (suc r) (text "\n" ++ m) (omega arith)) ∙ ap (λ (l : List ℕ). value 0 (drop 6 l)) e),
-      plain (text "used ") tt rest (decimal-lets (suc r) (text "\n" ++ m) (plain (text "\n") tt m h)),
+      before (text "used ") rest refl (before (decimal (suc r)) (text "\n" ++ m) (decimal-plain (suc r)) (before (text "\n") m refl h)),
     )
 
-replied-lets : (k r : ℕ) → r ≢ 24 → Lets (repliedLine k r)
-unfolding repliedLine
-replied-lets k r ne m h =
-    rw (append-assoc (decimal k ++ reply r) (text "\n") m, append-assoc (decimal k) (reply r) (text "\n" ++ m))
-    (decimal-lets k (reply r ++ (text "\n" ++ m)) (reply-lets r ne m h))
+replies-without : (k : ℕ) (rs : List ℕ) → ((j : ℕ) → getD rs j 0 ≢ 24) → (m : List ℕ) → Without m → Without (flatten (numbered repliedLine k rs) ++ m)
+unfolding numbered flatten repliedLine
+replies-without k [] ne m h = h
+replies-without k (r ∷ rs) ne m h =
+    let rest = flatten (numbered repliedLine (suc k) rs) ++ m in
+    rw (append-assoc (repliedLine k r) (flatten (numbered repliedLine (suc k) rs)) m, append-assoc (decimal k ++ reply r) (text "\n") rest, append-assoc (decimal k) (reply r) (text "\n" ++ rest))
+    (before (decimal k) (reply r ++ (text "\n" ++ rest)) (decimal-plain k)
+    (reply-without r (ne 0) rest (replies-without (suc k) rs (λ j. ne (suc j)) m h)))
 
-cut-lets : (k : ℕ) → Lets (cutLine k)
-unfolding cutLine every
-cut-lets k = after (decimal k) (text " cut\n") (decimal-lets k) (plain (text " cut\n") tt)
+plain-without : (l : List ℕ) → plain l ≡ true → Without l
+unfolding Without
+plain-without l h = rw append-nil at (before l [] h tt)
 
-letter-lets : (r : ℕ) → Lets (letter r)
-unfolding letter every
-letter-lets r = go (eqb r 1)
-  where
-    go : (b : Bool) → Lets (cond b (text " P") (text " S"))
-    go true = plain (text " P") tt
-    go false = plain (text " S") tt
+-- ---- the whole output
 
-row-lets : (s : ℕ) (a : Server) → Lets (rowLine s a)
-unfolding shownRow fields every
-row-lets s a =
-    let figured = fields (figures (seen a)) in
-    after (text "row" ++ field s ++ letter (a .role) ++ figured) (text "\n")
-    (after (text "row" ++ field s ++ letter (a .role)) figured
-    (after (text "row" ++ field s) (letter (a .role)) (after (text "row") (field s) (plain (text "row") tt) (field-lets s)) (letter-lets (a .role)))
-    (fields-let (figures (seen a))))
-    (plain (text "\n") tt)
+module _ (t : Table) (p : List ℕ) (ne : (j : ℕ) → getD (run t (wholeActions p) .replies) j 0 ≢ 24) where
+  played-without : Without (flatten (playedLines t p))
+  unfolding playedLines
+  played-without =
+      let ran = run t (wholeActions p) in
+      let rest = cutLines p ++ tableLines (ran .table) in
+      let quiet : plain (flatten rest) ≡ true = rw (flatten-append (cutLines p) (tableLines (ran .table)), plain-append, cuts-plain p, table-plain (ran .table)) in
+      rw (flatten-append (repliedLines (ran .replies)) rest) (replies-without 1 (ran .replies) ne (flatten rest) (plain-without (flatten rest) quiet))
 
-marks-let : (ms : List ℕ) → Lets (marksLine ms)
-unfolding marksLine every
-marks-let ms =
-    after (text "marks" ++ fields (trimmed ms)) (text "\n")
-    (after (text "marks") (fields (trimmed ms)) (plain (text "marks") tt) (fields-let (trimmed ms)))
-    (plain (text "\n") tt)
-
--- ---- all lines
-
-abbrev AllLet : List (List ℕ) → Type 0
-AllLet [] = Unit {0}
-AllLet (l ∷ ls) = Lets l × AllLet ls
-
-all-after : (ls ks : List (List ℕ)) → AllLet ls → AllLet ks → AllLet (ls ++ ks)
-all-after [] ks f g = g
-all-after (l ∷ ls) ks (h, f) g = (h, all-after ls ks f g)
-
-flatten-lets : (ls : List (List ℕ)) → AllLet ls → Lets (flatten ls)
-unfolding flatten
-flatten-lets [] f = λ m h. h
-flatten-lets (l ∷ ls) (h, f) = after l (flatten ls) h (flatten-lets ls f)
-
-replies-let : (k : ℕ) (rs : List ℕ) → ((j : ℕ) → getD rs j 0 ≢ 24) → AllLet (numbered repliedLine k rs)
-unfolding numbered
-replies-let k [] ne = tt
-replies-let k (r ∷ rs) ne = (replied-lets k r (ne 0), replies-let (suc k) rs (λ j. ne (suc j)))
-
-rows-let : (k : ℕ) (ss : List Server) → AllLet (numbered rowLine k ss)
-unfolding numbered
-rows-let k [] = tt
-rows-let k (s ∷ ss) = (row-lets k s, rows-let (suc k) ss)
-
-cuts-let : (p : List ℕ) → AllLet (cutLines p)
-unfolding cutLines
-cuts-let p = go (eqb (length p % 8) 0)
-  where
-    go : (b : Bool) → AllLet (cond b [] (cutLine (length p / 8 + 1) ∷ []))
-    go true = tt
-    go false = (cut-lets (length p / 8 + 1), tt)
-
-played-let : (t : Table) (p : List ℕ) → ((j : ℕ) → getD (run t (wholeActions p) .replies) j 0 ≢ 24) → AllLet (playedLines t p)
-unfolding playedLines tableLines
-played-let t p ne =
-    let ran = run t (wholeActions p) in
-    let end = ran .table in
-    all-after (repliedLines (ran .replies)) (cutLines p ++ (rowLines (end .servers) ++ (marksLine (end .marks) ∷ []))) (replies-let 1 (ran .replies) ne)
-    (all-after (cutLines p) (rowLines (end .servers) ++ (marksLine (end .marks) ∷ [])) (cuts-let p)
-    (all-after (rowLines (end .servers)) (marksLine (end .marks) ∷ []) (rows-let 1 (end .servers)) (marks-let (end .marks), tt)))
-
-lines-let : (t : Table) (p : List ℕ) → broken t ≡ false → AllLet (playedLines t p) → AllLet (inputLines (image t ++ p))
-unfolding inputLines tooLongLine every
-lines-let t p sound f =
-    elim (decLe (length (image t ++ p)) longest) [
-      | yes s ↦ rw (image-lines t p sound s) f
-      | no s ↦ rw (lt-ltb longest (length (image t ++ p)) (omega arith)) (plain (text "too long\n") tt, tt)
-    ]
-
--- ---- from a fresh table
+  printed-without : broken t ≡ false → Without (printed (image t ++ p))
+  unfolding inputLines tooLongLine flatten plain
+  printed-without sound =
+      elim (decLe (length (image t ++ p)) longest) [
+        | yes s ↦ rw (image-lines t p sound s) played-without
+        | no s ↦ rw (lt-ltb longest (length (image t ++ p)) (omega arith)) (plain-without (text "too long\n") refl)
+      ]
 
 -- Actions on a fresh table, the image of what they leave, and any bytes behind it, which `rehearse` plays: nowhere in what it prints does
 -- `refused 24` stand. With no actions it is the image of a fresh table.
@@ -215,17 +185,16 @@ module _ (n m : ℕ) (acts : List (List ℕ)) (sound : broken (fresh n m) ≡ fa
 
   replies-24 : (q : List (List ℕ)) (j : ℕ) → getD (play left q .replies) j 0 ≢ 24
   replies-24 q j e =
-      let before = play (fresh n m) acts .replies in
-      not-given-24 n m (acts ++ q) (length before + j)
-      (ap (λ (r : Ran). getD (r .replies) (length before + j) 0) (play-append (fresh n m) acts q) ∙ getD-append-add before (play left q .replies) j 0 ∙ e)
+      let first = play (fresh n m) acts .replies in
+      not-given-24 n m (acts ++ q) (length first + j)
+      (ap (λ (r : Ran). getD (r .replies) (length first + j) 0) (play-append (fresh n m) acts q) ∙ getD-append-add first (play left q .replies) j 0 ∙ e)
 
   pub never-printed : (p x y : List ℕ) → printed (image left ++ p) ≢ x ++ (text " refused 24\n" ++ y)
-  unfolding Without
   never-printed p x y e =
-      let lines = inputLines (image left ++ p) in
       let plan = wholeActions p in
-      let all = lines-let left p (play-sound (fresh n m) acts sound) (played-let left p (replies-24 (pieces (pieceCount plan) plan))) in
-      nowhere (flatten lines) (x ++ text " re") y (rw append-nil at (flatten-lets lines all [] tt)) (e ∙ sym (append-assoc x (text " re") (sought ++ y)))
+      nowhere (printed (image left ++ p)) (x ++ text " re") y
+      (printed-without left p (replies-24 (pieces (pieceCount plan) plan)) (play-sound (fresh n m) acts sound))
+      (e ∙ sym (append-assoc x (text " re") (sought ++ y)))
 
   -- so whoever keeps the promise of `rehearse` leaves no such line in the part of the buffer that is printed
   pub never-shown : {b b' : List ℕ} {e : ℕ} (p : List ℕ) → Wrote b b' 0 (printed (image left ++ p)) e

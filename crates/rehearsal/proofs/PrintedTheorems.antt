@@ -14,20 +14,29 @@ use Rattle.words.specs.Lists.{nth, every}
 use Rattle.words.specs.Words.{bytes}
 use Rattle.table.specs.Layout.{tableBytes}
 use Rattle.image.specs.Image.{contents, image}
+use Rattle.reader.specs.Reader.{readTable}
 use Rattle.reader.proofs.ReadBack.{end-back}
 use Rattle.reader.proofs.ReadTheorems.{read-back}
 use Rattle.report.specs.Report.{playedLines}
 use Rattle.report.specs.Case.{plan, given, expected}
 use Rattle.report.proofs.Worked.{case-holds}
-use Rattle.rehearsal.specs.Printed.{longest, inputLines}
+use Rattle.rehearsal.specs.Printed.{longest, siteReply, faulty, planOf, inputLines}
 
--- Of an input that begins with the image of a table, the lines are those of that table and of the bytes behind its image.
+-- An input that begins with the image of a table is played: that table and the bytes behind its image are found in it.
+pub image-opened : (t : Table) (p : List ℕ) → broken t ≡ false → length (image t ++ p) ≤ longest
+    → (faulty (image t ++ p) ≡ false) × (readTable (image t ++ p) ≡ t) × (planOf (image t ++ p) ≡ p)
+image-opened t p h small =
+    let slice : List ℕ = replicate tableBytes 0 in
+    let (read, table, _, _) = read-back t p slice 0 h (length-replicate {A = ℕ} tableBytes 0) in (
+      rw (le-ltb longest (length (image t ++ p)) small, eq-eqb (siteReply (image t ++ p)) 0 read),
+      table,
+      rw (end-back t h p, drop-at (image t) p (length (image t)) refl),
+    )
+
+-- So its lines are those of that table and of those bytes.
 pub image-lines : (t : Table) (p : List ℕ) → broken t ≡ false → length (image t ++ p) ≤ longest → inputLines (image t ++ p) ≡ playedLines t p
 unfolding inputLines
-image-lines t p h small =
-    let slice : List ℕ = replicate tableBytes 0 in
-    let (read, table, _, _) = read-back t p slice 0 h (length-replicate {A = ℕ} tableBytes 0) in
-    rw (le-ltb longest (length (image t ++ p)) small, eq-eqb _ 0 read, table, end-back t h p, drop-at (image t) p (length (image t)) refl)
+image-lines t p h small = let (sound, table, rest) = image-opened t p h small in rw (sound, table, rest)
 
 -- ---- the case that document 01 gives whole, from the bytes of its input to those of its output
 

@@ -1,2 +1,4 @@
--- What `rehearse` prints of its whole input.
+-- What the programs make of their whole input. In the order to read: what `rehearse` prints, what `save` writes, what both find first.
 pub mod Printed
+pub mod Saved
+pub mod Opening

@@ -1,35 +1,61 @@
-// All that rehearse prints, put at the start of a lent buffer: what stands in it, and in which order, is a function of the input.
-ghost use Prim.Native.Nat.{_+_, _*_, _≤_};
-ghost use lib.ListN.{length, take};
+// What the programs make of an input, put at the start of a lent buffer: what stands in it, and in which order, is a function of the input.
+ghost use mathlib.Core.Path.{_≡_};
 ghost use mathlib.Core.List.{flatten};
+ghost use Prim.Native.Nat.{_+_, _*_, _/_, _≤_};
+ghost use lib.ListN.{length, take};
+ghost use Rattle.algorithm.specs.Run.{run};
+ghost use Rattle.table.specs.Layout.{tableBytes, tableIn};
 ghost use Rattle.engine.specs.Engine.{Ready};
-ghost use Rattle.report.specs.Report.{repliedLines, cutLines, rowLines, tableLines, playedLines};
-ghost use Rattle.rehearsal.specs.Printed.{longest, printed};
-ghost use Rattle.table.specs.Layout.{tableIn};
-ghost use Rattle.table.specs.Slice.{Held};
+ghost use Rattle.image.specs.Image.{image, longestImage};
 ghost use Rattle.buffer.specs.Buffer.{Wrote, WroteShort};
+ghost use Rattle.report.specs.Report.{repliedLines, cutLines, playedLines};
+ghost use Rattle.report.specs.Lines.{repliedRoom, cutRoom, badSiteRoom};
+ghost use Rattle.rehearsal.specs.Printed.{longest, printed};
+ghost use Rattle.rehearsal.specs.Opening.{OpenAnswer};
+ghost use Rattle.rehearsal.specs.Saved.{SaveAnswer};
 use engine::run;
 use reader::read;
-use report::MOST;
-use report::PIECES;
+use report::CUT;
+use report::REPLIED;
+use report::TABLE;
 use report::bad_site_line;
 use report::cut_line;
-use report::marks_line;
+use report::put_table;
 use report::replied_line;
-use report::row_line;
 use report::too_long_line;
 use table::BYTES;
-use table::rows::count_of;
-use table::rows::row_of;
+use walk::Found;
+use walk::next;
+use writer::put_image;
 
-// Room for the longest output: a reply for each piece, a cut, 16 rows, the marks.
-pub const ROOM: usize = 30 * PIECES + 15 + 83 * 16 + 710;
+// The longest input, and the most pieces of 8 bytes that it has.
+pub const MOST: usize = 65536;
+
+const PIECES: usize = MOST / 8;
+
+// Room for all that rehearse prints: a reply for each piece, a cut, a table.
+pub const ROOM: usize = REPLIED * PIECES + CUT + TABLE;
+
+// Room for all that save writes: the longest image (image/specs/Image.antt).
+pub const IMAGE: usize = 4684;
+
+// An input is not played, and what is told of it is so long; or its actions begin at a place.
+pub(crate) enum Opened {
+    Told(usize),
+    Site(usize),
+}
+
+// What the buffer has for which stream, and how long it is: an image for standard output, or words for standard error.
+pub enum Saved {
+    Image(usize),
+    Told(usize),
+}
 
 // The first n replies, each under its action's number.
 fn put_replies(buffer: &mut [u8], from: usize, replies: &[u8], n: usize) -> usize
     requires { ⌜ (n ≤ length (now replies)) × (8 * n ≤ longest) ⌝ }
-    requires { ⌜ from + 30 * n ≤ length (now buffer) ⌝ }
-    ensures { λ e. ⌜ WroteShort (30 * n) (now (buffer .entry)) (now (buffer .exit)) from (flatten (repliedLines (take n (now (replies .entry))))) e ⌝ }
+    requires { ⌜ from + repliedRoom * n ≤ length (now buffer) ⌝ }
+    ensures { λ e. ⌜ WroteShort (repliedRoom * n) (now (buffer .entry)) (now (buffer .exit)) from (flatten (repliedLines (take n (now (replies .entry))))) e ⌝ }
 {
     let mut end = from;
     let mut k: usize = 0;
@@ -40,41 +66,17 @@ fn put_replies(buffer: &mut [u8], from: usize, replies: &[u8], n: usize) -> usiz
     end
 }
 
-// The next number, where some bytes are left over.
-fn put_cut(buffer: &mut [u8], at: usize, actions: &[u8]) -> usize
-    requires { ⌜ length (now actions) ≤ longest ⌝ }
-    requires { ⌜ at + 15 ≤ length (now buffer) ⌝ }
-    ensures { λ e. ⌜ WroteShort 15 (now (buffer .entry)) (now (buffer .exit)) at (flatten (cutLines (now (actions .entry)))) e ⌝ }
+// What stands behind the n whole actions, if anything does, is told under the next number.
+fn put_cut(buffer: &mut [u8], at: usize, actions: &[u8], n: usize) -> usize
+    requires { ⌜ (n ≡ length (now actions) / 8) × (length (now actions) ≤ longest) ⌝ }
+    requires { ⌜ at + cutRoom ≤ length (now buffer) ⌝ }
+    ensures { λ e. ⌜ WroteShort cutRoom (now (buffer .entry)) (now (buffer .exit)) at (flatten (cutLines (now (actions .entry)))) e ⌝ }
 {
-    let n = actions.len();
-    if n % 8 == 0 {
-        return at;
+    match next(actions, 8 * n) {
+        Found::Action(_) => at,
+        Found::Cut(_) => cut_line(buffer, at, n as u32 + 1),
+        Found::End => at,
     }
-    cut_line(buffer, at, (n / 8) as u32 + 1)
-}
-
-fn put_rows(buffer: &mut [u8], from: usize, t: &[u8]) -> usize
-    requires { ⌜ Held (now t) ⌝ }
-    requires { ⌜ from + 1328 ≤ length (now buffer) ⌝ }
-    ensures { λ e. ⌜ WroteShort 1328 (now (buffer .entry)) (now (buffer .exit)) from (flatten (rowLines (tableIn (now (t .entry)) .servers))) e ⌝ }
-{
-    let n = count_of(t);
-    let mut end = from;
-    let mut s: u8 = 0;
-    while s < n {
-        s += 1;
-        end = row_line(buffer, end, s, row_of(t, s as usize));
-    }
-    end
-}
-
-fn put_table(buffer: &mut [u8], at: usize, t: &[u8]) -> usize
-    requires { ⌜ Held (now t) ⌝ }
-    requires { ⌜ at + 2038 ≤ length (now buffer) ⌝ }
-    ensures { λ e. ⌜ WroteShort 2038 (now (buffer .entry)) (now (buffer .exit)) at (flatten (tableLines (tableIn (now (t .entry))))) e ⌝ }
-{
-    let end = put_rows(buffer, at, t);
-    marks_line(buffer, end, t)
 }
 
 // The whole actions are played first, and then told: nothing but the engine's run plays an action.
@@ -88,8 +90,37 @@ fn put_played(buffer: &mut [u8], t: &mut [u8], actions: &[u8]) -> usize
     let whole = actions.len() - actions.len() % 8;
     let n = run(t, &actions[..whole], &mut replies);
     let end = put_replies(buffer, 0, &replies, n);
-    let end = put_cut(buffer, end, actions);
+    let end = put_cut(buffer, end, actions, n);
     put_table(buffer, end, t)
+}
+
+// All pieces are played, and the image of the table that is left is put: a last piece that is cut is refused and alters nothing.
+fn put_left(buffer: &mut [u8], t: &mut [u8], actions: &[u8]) -> usize
+    requires { ⌜ Ready (now t) ⌝ }
+    requires { ⌜ length (now actions) ≤ longest ⌝ }
+    requires { ⌜ longestImage ≤ length (now buffer) ⌝ }
+    ensures { λ e. ⌜ Wrote (now (buffer .entry)) (now (buffer .exit)) 0 (image (run (tableIn (now (t .entry))) (now (actions .entry)) .table)) e ⌝ }
+{
+    let mut replies = [0u8; PIECES];
+    run(t, actions, &mut replies);
+    put_image(buffer, t)
+}
+
+// Reads the table of an input into t. Of an input that is not played, why is put into the buffer.
+fn open_input(input: &[u8], t: &mut [u8], buffer: &mut [u8]) -> Opened
+    requires { ⌜ length (now t) ≡ tableBytes ⌝ }
+    requires { ⌜ badSiteRoom ≤ length (now buffer) ⌝ }
+    ensures { λ r. ⌜ OpenAnswer (now (input .entry)) (now (buffer .entry)) (now (buffer .exit)) (now (t .exit)) r ⌝ }
+{
+    if MOST < input.len() {
+        return Opened::Told(too_long_line(buffer, 0));
+    }
+    let mut end: u64 = 0;
+    let number = read(input, t, &mut end);
+    if number != 0 {
+        return Opened::Told(bad_site_line(buffer, 0, number));
+    }
+    Opened::Site(end as usize)
 }
 
 // Puts what is to be printed of an input into a buffer, and answers how many bytes that is.
@@ -97,15 +128,21 @@ pub fn rehearse(input: &[u8], buffer: &mut [u8]) -> usize
     requires { do ⌜ (← ⟦ROOM⟧) ≤ length (now buffer) ⌝ }
     ensures { λ n. ⌜ Wrote (now (buffer .entry)) (now (buffer .exit)) 0 (printed (now (input .entry))) n ⌝ }
 {
-    if MOST < input.len() {
-        return too_long_line(buffer, 0);
-    }
     let mut t = [0u8; BYTES];
-    let mut end: u64 = 0;
-    let number = read(input, &mut t, &mut end);
-    if number != 0 {
-        return bad_site_line(buffer, 0, number);
+    match open_input(input, &mut t, buffer) {
+        Opened::Told(n) => n,
+        Opened::Site(at) => put_played(buffer, &mut t, &input[at..]),
     }
-    let at = end as usize;
-    put_played(buffer, &mut t, &input[at..])
+}
+
+// Puts what is to be written of an input into a buffer, and answers to which stream it goes and how many bytes that is.
+pub fn save(input: &[u8], buffer: &mut [u8]) -> Saved
+    requires { do ⌜ (← ⟦IMAGE⟧) ≤ length (now buffer) ⌝ }
+    ensures { λ r. ⌜ SaveAnswer (now (input .entry)) (now (buffer .entry)) r (now (buffer .exit)) ⌝ }
+{
+    let mut t = [0u8; BYTES];
+    match open_input(input, &mut t, buffer) {
+        Opened::Told(n) => Saved::Told(n),
+        Opened::Site(at) => Saved::Image(put_left(buffer, &mut t, &input[at..])),
+    }
 }

@@ -3,9 +3,9 @@
 // not told: there is nowhere else to tell it.
 use libc::STDIN_FILENO;
 use libc::STDOUT_FILENO;
+use rehearsal::MOST;
 use rehearsal::ROOM;
 use rehearsal::rehearse;
-use report::MOST;
 
 // One byte more than is allowed is read, so that a longer input is seen to be longer.
 fn main() {

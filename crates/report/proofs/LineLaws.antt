@@ -1,74 +1,73 @@
 -- What the parts of a line make when they are written one behind another. Assumes nothing.
-use Prim.Native.Nat.{ℕ, zero, suc, _≤_}
+use Prim.Native.Nat.{ℕ, zero, suc, _≤_, _+_, _*_}
 use native.Mathlib.Omega.{arith}
 use mathlib.Core.Path.{_≡_, refl, sym}
 use mathlib.Core.List.{List, _++_}
 use lib.ListN.{length, take}
 use borrow.Author.Tests.{eq-eqb, ne-eqb}
-use Rattle.algorithm.specs.Table.{trimmed}
+use Rattle.algorithm.specs.Table.{positions, trimmed}
 use Rattle.table.specs.declared.rows.Row.{Row}
 use Rattle.table.proofs.MarkLaws.{trimmed-take}
-use Rattle.buffer.specs.Texts.{text, decimal, field, fields}
+use Rattle.buffer.specs.Texts.{text, decimal, numberRoom, field, fieldRoom, fields}
 use Rattle.report.specs.Lines.{reply, repliedLine, cutLine, badSiteLine, tooLongLine, letter, figures, shownRow, marksLine}
+use Rattle.report.specs.Lines.{repliedRoom, cutRoom, badSiteRoom, rowRoom, marksLineRoom}
 use Rattle.buffer.specs.Buffer.{Wrote, WroteShort}
-use Rattle.buffer.proofs.WroteLaws.{then}
+use Rattle.buffer.proofs.WroteLaws.{exact, then-short}
 
 -- ---- parts of a line
 
 module _ (b b₁ : List ℕ) (at e : ℕ) where
-  pub taken : (r : ℕ) → r ≡ 0 → Wrote b b₁ at (text " taken") e → WroteShort 19 b b₁ at (reply r) e
+  pub taken : (r : ℕ) → r ≡ 0 → Wrote b b₁ at (text " taken") e → WroteShort (8 + fieldRoom) b b₁ at (reply r) e
   unfolding reply
   taken r h w = record { wrote = rw h w; short = omega (arith, w .end) }
 
   pub primary : (r : ℕ) → r ≡ 1 → Wrote b b₁ at (text " P") e → WroteShort 2 b b₁ at (letter r) e
   unfolding letter
-  primary r h w = record { wrote = rw (eq-eqb r 1 h) w; short = omega (arith, w .end) }
+  primary r h w = rw (eq-eqb r 1 h) (exact w)
 
   pub secondary : (r : ℕ) → (r ≡ 1 → ⊥) → Wrote b b₁ at (text " S") e → WroteShort 2 b b₁ at (letter r) e
   unfolding letter
-  secondary r h w = record { wrote = rw (ne-eqb r 1 h) w; short = omega (arith, w .end) }
+  secondary r h w = rw (ne-eqb r 1 h) (exact w)
 
 module _ (b b₁ b₂ : List ℕ) (at d e : ℕ) where
-  pub refused : (r : ℕ) → (r ≡ 0 → ⊥) → Wrote b b₁ at (text " refused") d → WroteShort 11 b₁ b₂ d (field r) e → WroteShort 19 b b₂ at (reply r) e
+  pub refused : (r : ℕ) → (r ≡ 0 → ⊥) → Wrote b b₁ at (text " refused") d → WroteShort fieldRoom b₁ b₂ d (field r) e → WroteShort (8 + fieldRoom) b b₂ at (reply r) e
   unfolding reply
   refused zero h w f = absurd (h refl)
-  refused (suc r) h w f = record { wrote = then w (f .wrote); short = omega (arith, w .end, f .short) }
+  refused (suc r) h w f = then-short (exact w) f
 
-pub head : (b b₁ b₂ b₃ : List ℕ) (at c d e s r : ℕ) → Wrote b b₁ at (text "row") c → WroteShort 11 b₁ b₂ c (field s) d
-    → WroteShort 2 b₂ b₃ d (letter r) e → WroteShort 16 b b₃ at (text "row" ++ field s ++ letter r) e
-head b b₁ b₂ b₃ at c d e s r w n l =
-    record { wrote = then (then w (n .wrote)) (l .wrote); short = omega (arith, w .end, n .short, l .short) }
+pub head : (b b₁ b₂ b₃ : List ℕ) (at c d e s r : ℕ) → Wrote b b₁ at (text "row") c → WroteShort fieldRoom b₁ b₂ c (field s) d
+    → WroteShort 2 b₂ b₃ d (letter r) e → WroteShort (5 + fieldRoom) b b₃ at (text "row" ++ field s ++ letter r) e
+head b b₁ b₂ b₃ at c d e s r w n l = then-short (then-short (exact w) n) l
 
 -- ---- lines
 
 module _ (b b₁ : List ℕ) (at e : ℕ) where
   pub too-long : Wrote b b₁ at (text "too long\n") e → WroteShort 9 b b₁ at tooLongLine e
   unfolding tooLongLine
-  too-long w = record { wrote = w; short = omega (arith, w .end) }
+  too-long w = exact w
 
 module _ (b b₁ b₂ : List ℕ) (at d e : ℕ) where
-  pub cut : (k : ℕ) → WroteShort 10 b b₁ at (decimal k) d → Wrote b₁ b₂ d (text " cut\n") e → WroteShort 15 b b₂ at (cutLine k) e
+  pub cut : (k : ℕ) → WroteShort numberRoom b b₁ at (decimal k) d → Wrote b₁ b₂ d (text " cut\n") e → WroteShort cutRoom b b₂ at (cutLine k) e
   unfolding cutLine
-  cut k n w = record { wrote = then (n .wrote) w; short = omega (arith, n .short, w .end) }
+  cut k n w = then-short n (exact w)
 
 module _ (b b₁ b₂ b₃ : List ℕ) (at c d e : ℕ) where
-  pub replied : (k r : ℕ) → WroteShort 10 b b₁ at (decimal k) c → WroteShort 19 b₁ b₂ c (reply r) d → Wrote b₂ b₃ d (text "\n") e
-      → WroteShort 30 b b₃ at (repliedLine k r) e
+  pub replied : (k r : ℕ) → WroteShort numberRoom b b₁ at (decimal k) c → WroteShort (8 + fieldRoom) b₁ b₂ c (reply r) d → Wrote b₂ b₃ d (text "\n") e
+      → WroteShort repliedRoom b b₃ at (repliedLine k r) e
   unfolding repliedLine
-  replied k r n p w = record { wrote = then (then (n .wrote) (p .wrote)) w; short = omega (arith, n .short, p .short, w .end) }
+  replied k r n p w = then-short (then-short n p) (exact w)
 
-  pub bad-site : (r : ℕ) → Wrote b b₁ at (text "bad site") c → WroteShort 11 b₁ b₂ c (field r) d → Wrote b₂ b₃ d (text "\n") e
-      → WroteShort 20 b b₃ at (badSiteLine r) e
+  pub bad-site : (r : ℕ) → Wrote b b₁ at (text "bad site") c → WroteShort fieldRoom b₁ b₂ c (field r) d → Wrote b₂ b₃ d (text "\n") e
+      → WroteShort badSiteRoom b b₃ at (badSiteLine r) e
   unfolding badSiteLine
-  bad-site r v n w = record { wrote = then (then v (n .wrote)) w; short = omega (arith, v .end, n .short, w .end) }
+  bad-site r v n w = then-short (then-short (exact v) n) (exact w)
 
-  pub row : (s : ℕ) (a : Row) → WroteShort 16 b b₁ at (text "row" ++ field s ++ letter (a .figures .role)) c → WroteShort 66 b₁ b₂ c (fields (figures a)) d
-      → Wrote b₂ b₃ d (text "\n") e → WroteShort 83 b b₃ at (shownRow s a) e
+  pub row : (s : ℕ) (a : Row) → WroteShort (5 + fieldRoom) b b₁ at (text "row" ++ field s ++ letter (a .figures .role)) c → WroteShort (6 * fieldRoom) b₁ b₂ c (fields (figures a)) d
+      → Wrote b₂ b₃ d (text "\n") e → WroteShort rowRoom b b₃ at (shownRow s a) e
   unfolding shownRow
-  row s a n f w = record { wrote = then (then (n .wrote) (f .wrote)) w; short = omega (arith, n .short, f .short, w .end) }
+  row s a n f w = then-short (then-short n f) (exact w)
 
-  pub marks-shown : (ms : List ℕ) (n : ℕ) → (n ≡ length (trimmed ms)) × (n ≤ 64) → Wrote b b₁ at (text "marks") c
-      → WroteShort 704 b₁ b₂ c (fields (take n ms)) d → Wrote b₂ b₃ d (text "\n") e → WroteShort 710 b b₃ at (marksLine ms) e
+  pub marks-shown : (ms : List ℕ) (n : ℕ) → (n ≡ length (trimmed ms)) × (n ≤ positions) → Wrote b b₁ at (text "marks") c
+      → WroteShort (fieldRoom * positions) b₁ b₂ c (fields (take n ms)) d → Wrote b₂ b₃ d (text "\n") e → WroteShort marksLineRoom b b₃ at (marksLine ms) e
   unfolding marksLine
-  marks-shown ms n (h, _) v f w =
-      record { wrote = rw (sym (trimmed-take ms), ← h) (then (then v (f .wrote)) w); short = omega (arith, v .end, f .short, w .end) }
+  marks-shown ms n (h, _) v f w = rw (sym (trimmed-take ms), ← h) (then-short (then-short (exact v) f) (exact w))

@@ -1,12 +1,12 @@
 -- The lines that `rehearse` prints, as bytes. Assumes nothing.
-use Prim.Native.Nat.{ℕ, zero, suc}
+use Prim.Native.Nat.{ℕ, zero, suc, _+_, _*_}
 use mathlib.Core.Bool.{cond}
 use mathlib.Core.List.{List, [], _∷_, _++_}
 use lib.Dec.{eqb}
-use Rattle.algorithm.specs.Table.{Server, trimmed}
+use Rattle.algorithm.specs.Table.{Server, positions, mostServers, trimmed}
 use Rattle.table.specs.Slice.{seen}
 use Rattle.table.specs.declared.rows.Row.{Row}
-use Rattle.buffer.specs.Texts.{text, decimal, field, fields}
+use Rattle.buffer.specs.Texts.{text, numberRoom, decimal, fieldRoom, field, fields}
 
 -- ---- lines on actions
 
@@ -54,3 +54,29 @@ rowLine s a = shownRow s (seen a)
 -- the marks of a table
 unfoldable pub marksLine : List ℕ → List ℕ
 marksLine ms = text "marks" ++ fields (trimmed ms) ++ text "\n"
+
+-- ---- room: how many bytes a line has at most
+
+-- that of a reply
+abbrev pub repliedRoom : ℕ
+repliedRoom = numberRoom + (8 + fieldRoom) + 1
+
+-- that of a cut
+abbrev pub cutRoom : ℕ
+cutRoom = numberRoom + 5
+
+-- that of an image that is refused
+abbrev pub badSiteRoom : ℕ
+badSiteRoom = 8 + fieldRoom + 1
+
+-- that of a server
+abbrev pub rowRoom : ℕ
+rowRoom = 5 + fieldRoom + 6 * fieldRoom + 1
+
+-- that of the marks
+abbrev pub marksLineRoom : ℕ
+marksLineRoom = 5 + fieldRoom * positions + 1
+
+-- all lines of a table
+abbrev pub tableRoom : ℕ
+tableRoom = rowRoom * mostServers + marksLineRoom

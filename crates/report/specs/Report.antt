@@ -29,7 +29,7 @@ tableLines t = rowLines (t .servers) ++ (marksLine (t .marks) ∷ [])
 abbrev pub wholeActions : List ℕ → List ℕ
 wholeActions p = take (length p - length p % 8) p
 
--- 1 to 7 bytes left over give the next number and `cut`
+-- a line for what stands behind the whole actions, if anything does: it is counted as the next action
 unfoldable pub cutLines : List ℕ → List (List ℕ)
 cutLines p = cond (eqb (length p % 8) 0) [] (cutLine (length p / 8 + 1) ∷ [])
 

@@ -1,11 +1,15 @@
 // The lines that rehearse prints, each put at a place of a lent buffer. Every function answers the place behind its line.
 mod parts;
 
-ghost use Prim.Native.Nat.{_+_, _≤_};
+ghost use Prim.Native.Nat.{_+_, _*_, _≤_};
 ghost use lib.ListN.{length};
+ghost use mathlib.Core.List.{flatten};
+ghost use Rattle.algorithm.specs.Table.{mostServers};
 ghost use Rattle.table.specs.Layout.{tableIn};
 ghost use Rattle.table.specs.Slice.{Held};
 ghost use Rattle.report.specs.Lines.{repliedLine, cutLine, badSiteLine, tooLongLine, shownRow, marksLine};
+ghost use Rattle.report.specs.Report.{rowLines, tableLines};
+ghost use Rattle.report.specs.Lines.{repliedRoom, cutRoom, badSiteRoom, rowRoom, marksLineRoom, tableRoom};
 ghost use Rattle.buffer.specs.Buffer.{WroteShort};
 use crate::parts::put_figures;
 use crate::parts::put_head;
@@ -17,16 +21,20 @@ use buffer::put_field;
 use buffer::put_word;
 use table::marks::marked;
 use table::rows::Row;
+use table::rows::count_of;
+use table::rows::row_of;
 
-// The longest input of the programs, and the most pieces of 8 bytes that such an input has.
-pub const MOST: usize = 65536;
+// Room for the line of a reply, for that of a cut and for all lines of a table (specs/Rooms.antt).
+pub const REPLIED: usize = 30;
 
-pub const PIECES: usize = MOST / 8;
+pub const CUT: usize = 15;
+
+pub const TABLE: usize = 2038;
 
 // Action k has the reply r, 0 for taken.
 pub fn replied_line(buffer: &mut [u8], at: usize, k: u32, r: u8) -> usize
-    requires { ⌜ at + 30 ≤ length (now buffer) ⌝ }
-    ensures { λ e. ⌜ WroteShort 30 (now (buffer .entry)) (now (buffer .exit)) at (repliedLine k r) e ⌝ }
+    requires { ⌜ at + repliedRoom ≤ length (now buffer) ⌝ }
+    ensures { λ e. ⌜ WroteShort repliedRoom (now (buffer .entry)) (now (buffer .exit)) at (repliedLine k r) e ⌝ }
 {
     let end = put_decimal(buffer, at, k);
     let end = put_reply(buffer, end, r);
@@ -35,8 +43,8 @@ pub fn replied_line(buffer: &mut [u8], at: usize, k: u32, r: u8) -> usize
 
 // The input ends inside action k.
 pub fn cut_line(buffer: &mut [u8], at: usize, k: u32) -> usize
-    requires { ⌜ at + 15 ≤ length (now buffer) ⌝ }
-    ensures { λ e. ⌜ WroteShort 15 (now (buffer .entry)) (now (buffer .exit)) at (cutLine k) e ⌝ }
+    requires { ⌜ at + cutRoom ≤ length (now buffer) ⌝ }
+    ensures { λ e. ⌜ WroteShort cutRoom (now (buffer .entry)) (now (buffer .exit)) at (cutLine k) e ⌝ }
 {
     let end = put_decimal(buffer, at, k);
     put_word(buffer, end, b" cut\n")
@@ -44,8 +52,8 @@ pub fn cut_line(buffer: &mut [u8], at: usize, k: u32) -> usize
 
 // The reader refuses the image with the number r.
 pub fn bad_site_line(buffer: &mut [u8], at: usize, r: u32) -> usize
-    requires { ⌜ at + 20 ≤ length (now buffer) ⌝ }
-    ensures { λ e. ⌜ WroteShort 20 (now (buffer .entry)) (now (buffer .exit)) at (badSiteLine r) e ⌝ }
+    requires { ⌜ at + badSiteRoom ≤ length (now buffer) ⌝ }
+    ensures { λ e. ⌜ WroteShort badSiteRoom (now (buffer .entry)) (now (buffer .exit)) at (badSiteLine r) e ⌝ }
 {
     let end = put_word(buffer, at, b"bad site");
     let end = put_field(buffer, end, r);
@@ -61,8 +69,8 @@ pub fn too_long_line(buffer: &mut [u8], at: usize) -> usize
 
 // Server s has the figures a.
 pub fn row_line(buffer: &mut [u8], at: usize, s: u8, a: Row) -> usize
-    requires { ⌜ at + 83 ≤ length (now buffer) ⌝ }
-    ensures { λ e. ⌜ WroteShort 83 (now (buffer .entry)) (now (buffer .exit)) at (shownRow s a) e ⌝ }
+    requires { ⌜ at + rowRoom ≤ length (now buffer) ⌝ }
+    ensures { λ e. ⌜ WroteShort rowRoom (now (buffer .entry)) (now (buffer .exit)) at (shownRow s a) e ⌝ }
 {
     let f = a.figures;
     let end = put_head(buffer, at, s, f.role);
@@ -72,12 +80,37 @@ pub fn row_line(buffer: &mut [u8], at: usize, s: u8, a: Row) -> usize
 
 // The marks of the table in t.
 pub fn marks_line(buffer: &mut [u8], at: usize, t: &[u8]) -> usize
-    requires { ⌜ at + 710 ≤ length (now buffer) ⌝ }
+    requires { ⌜ at + marksLineRoom ≤ length (now buffer) ⌝ }
     requires { ⌜ Held (now t) ⌝ }
-    ensures { λ e. ⌜ WroteShort 710 (now (buffer .entry)) (now (buffer .exit)) at (marksLine (tableIn (now (t .entry)) .marks)) e ⌝ }
+    ensures { λ e. ⌜ WroteShort marksLineRoom (now (buffer .entry)) (now (buffer .exit)) at (marksLine (tableIn (now (t .entry)) .marks)) e ⌝ }
 {
     let n = marked(t);
     let end = put_word(buffer, at, b"marks");
     let end = put_marks(buffer, end, t, n);
     put_byte(buffer, end, b'\n')
+}
+
+fn put_rows(buffer: &mut [u8], from: usize, t: &[u8]) -> usize
+    requires { ⌜ Held (now t) ⌝ }
+    requires { ⌜ from + (rowRoom * mostServers) ≤ length (now buffer) ⌝ }
+    ensures { λ e. ⌜ WroteShort (rowRoom * mostServers) (now (buffer .entry)) (now (buffer .exit)) from (flatten (rowLines (tableIn (now (t .entry)) .servers))) e ⌝ }
+{
+    let n = count_of(t);
+    let mut end = from;
+    let mut s: u8 = 0;
+    while s < n {
+        s += 1;
+        end = row_line(buffer, end, s, row_of(t, s as usize));
+    }
+    end
+}
+
+// The rows and the marks of the table in t.
+pub fn put_table(buffer: &mut [u8], at: usize, t: &[u8]) -> usize
+    requires { ⌜ Held (now t) ⌝ }
+    requires { ⌜ at + tableRoom ≤ length (now buffer) ⌝ }
+    ensures { λ e. ⌜ WroteShort tableRoom (now (buffer .entry)) (now (buffer .exit)) at (flatten (tableLines (tableIn (now (t .entry))))) e ⌝ }
+{
+    let end = put_rows(buffer, at, t);
+    marks_line(buffer, end, t)
 }

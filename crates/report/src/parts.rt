@@ -1,11 +1,11 @@
 // The parts that single lines have: a reply, the head and the figures of a row, the marks.
 ghost use mathlib.Core.List.{[], _∷_, _++_};
-ghost use Prim.Native.Nat.{_+_, _≤_};
+ghost use Prim.Native.Nat.{_+_, _*_, _≤_};
 ghost use lib.ListN.{length, take};
 ghost use Rattle.algorithm.specs.Table.{positions};
 ghost use Rattle.table.specs.Layout.{tableIn};
 ghost use Rattle.table.specs.Slice.{Held};
-ghost use Rattle.buffer.specs.Texts.{text, field, fields};
+ghost use Rattle.buffer.specs.Texts.{text, field, fieldRoom, fields};
 ghost use Rattle.report.specs.Lines.{reply, letter, figures};
 ghost use Rattle.buffer.specs.Buffer.{WroteShort};
 use algorithm::PRIMARY;
@@ -16,8 +16,8 @@ use table::rows::Row;
 use table::rows::mark_of;
 
 pub(crate) fn put_reply(buffer: &mut [u8], at: usize, r: u8) -> usize
-    requires { ⌜ at + 19 ≤ length (now buffer) ⌝ }
-    ensures { λ e. ⌜ WroteShort 19 (now (buffer .entry)) (now (buffer .exit)) at (reply r) e ⌝ }
+    requires { ⌜ at + (8 + fieldRoom) ≤ length (now buffer) ⌝ }
+    ensures { λ e. ⌜ WroteShort (8 + fieldRoom) (now (buffer .entry)) (now (buffer .exit)) at (reply r) e ⌝ }
 {
     if r == 0 {
         return put_word(buffer, at, b" taken");
@@ -37,8 +37,8 @@ fn put_role(buffer: &mut [u8], at: usize, role: u32) -> usize
 }
 
 pub(crate) fn put_head(buffer: &mut [u8], at: usize, s: u8, role: u32) -> usize
-    requires { ⌜ at + 16 ≤ length (now buffer) ⌝ }
-    ensures { λ e. ⌜ WroteShort 16 (now (buffer .entry)) (now (buffer .exit)) at (text "row" ++ field s ++ letter role) e ⌝ }
+    requires { ⌜ at + (5 + fieldRoom) ≤ length (now buffer) ⌝ }
+    ensures { λ e. ⌜ WroteShort (5 + fieldRoom) (now (buffer .entry)) (now (buffer .exit)) at (text "row" ++ field s ++ letter role) e ⌝ }
 {
     let end = put_word(buffer, at, b"row");
     let end = put_field(buffer, end, s as u32);
@@ -47,8 +47,8 @@ pub(crate) fn put_head(buffer: &mut [u8], at: usize, s: u8, role: u32) -> usize
 
 // Three numbers: six calls in a row are more than the prover's search goes through.
 fn put_three(buffer: &mut [u8], at: usize, x: u32, y: u32, z: u32) -> usize
-    requires { ⌜ at + 33 ≤ length (now buffer) ⌝ }
-    ensures { λ e. ⌜ WroteShort 33 (now (buffer .entry)) (now (buffer .exit)) at (fields (x ∷ y ∷ z ∷ [])) e ⌝ }
+    requires { ⌜ at + 3 * fieldRoom ≤ length (now buffer) ⌝ }
+    ensures { λ e. ⌜ WroteShort (3 * fieldRoom) (now (buffer .entry)) (now (buffer .exit)) at (fields (x ∷ y ∷ z ∷ [])) e ⌝ }
 {
     let end = put_field(buffer, at, x);
     let end = put_field(buffer, end, y);
@@ -56,8 +56,8 @@ fn put_three(buffer: &mut [u8], at: usize, x: u32, y: u32, z: u32) -> usize
 }
 
 pub(crate) fn put_figures(buffer: &mut [u8], at: usize, a: Row) -> usize
-    requires { ⌜ at + 66 ≤ length (now buffer) ⌝ }
-    ensures { λ e. ⌜ WroteShort 66 (now (buffer .entry)) (now (buffer .exit)) at (fields (figures a)) e ⌝ }
+    requires { ⌜ at + (6 * fieldRoom) ≤ length (now buffer) ⌝ }
+    ensures { λ e. ⌜ WroteShort (6 * fieldRoom) (now (buffer .entry)) (now (buffer .exit)) at (fields (figures a)) e ⌝ }
 {
     let f = a.figures;
     let end = put_three(buffer, at, f.term.0, f.set, f.version.0);
@@ -68,8 +68,8 @@ pub(crate) fn put_figures(buffer: &mut [u8], at: usize, a: Row) -> usize
 pub(crate) fn put_marks(buffer: &mut [u8], at: usize, t: &[u8], n: u8) -> usize
     requires { ⌜ Held (now t) ⌝ }
     requires { ⌜ n ≤ positions ⌝ }
-    requires { ⌜ at + 704 ≤ length (now buffer) ⌝ }
-    ensures { λ e. ⌜ WroteShort 704 (now (buffer .entry)) (now (buffer .exit)) at (fields (take n (tableIn (now (t .entry)) .marks))) e ⌝ }
+    requires { ⌜ at + (fieldRoom * positions) ≤ length (now buffer) ⌝ }
+    ensures { λ e. ⌜ WroteShort (fieldRoom * positions) (now (buffer .entry)) (now (buffer .exit)) at (fields (take n (tableIn (now (t .entry)) .marks))) e ⌝ }
 {
     let mut end = at;
     let mut k: u8 = 0;

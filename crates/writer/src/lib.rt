@@ -82,7 +82,7 @@ fn put_bodies(buffer: &mut [u8], from: usize, t: &[u8]) -> usize
     at
 }
 
-fn put_image(buffer: &mut [u8], t: &[u8]) -> usize
+pub fn put_image(buffer: &mut [u8], t: &[u8]) -> usize
     requires { ⌜ Savable (now t) ⌝ }
     requires { ⌜ length (imageOf (now t)) ≤ length (now buffer) ⌝ }
     ensures { λ r. ⌜ Wrote (now (buffer .entry)) (now (buffer .exit)) 0 (imageOf (now (t .entry))) r ⌝ }

@@ -4,7 +4,7 @@ use native.Mathlib.Omega.{arith}
 use lib.Seq.{length-take-le}
 use borrow.Author.Needs.{needs}
 use Rattle.engine.proofs.ReadyLaws.{played-held}
-use Rattle.rehearsal.proofs.InputLaws.{played-shown}
+use Rattle.rehearsal.proofs.PlayedLaws.{whole-count, played-shown}
 use Rattle.rehearsal.proofs.put_played.Statement.{statement}
 use Rattle.rehearsal.proofs.put_played.Tie as tie
 
@@ -27,7 +27,7 @@ put-replies-requires : tie.Need-put-replies-requires
 put-replies-requires c κs = search needs
 
 put-cut-requires : tie.Need-put-cut-requires
-put-cut-requires c κs = search needs
+put-cut-requires c κs = ((search (needs, whole-count), search needs), search needs)
 
 put-table-requires : tie.Need-put-table-requires
 put-table-requires c κs = (search (needs, played-held), search needs)

@@ -4,7 +4,7 @@ use mathlib.Core.Path.{_≡_}
 use borrow.Author.Needs.{needs}
 use lib.ListN.{length, take}
 use Rattle.table.specs.Layout.{tableIn}
-use Rattle.buffer.specs.Texts.{fields}
+use Rattle.buffer.specs.Texts.{fieldRoom, fields}
 use Rattle.buffer.specs.Buffer.{WroteShort}
 use Rattle.buffer.proofs.FieldLaws.{no-fields}
 use Rattle.report.proofs.MarkLaws.{marks-more, marks-all}
@@ -12,7 +12,7 @@ use Rattle.report.proofs.parts.put_marks.Statement.{statement}
 use Rattle.report.proofs.parts.put_marks.Tie as tie
 
 abbrev Inv-loop : tie.InvT-loop
-Inv-loop buffer₀ at t n end₀ k₀ buffer end k = (k ≤ n) × (length buffer ≡ length buffer₀) × WroteShort (11 * k) buffer₀ buffer at (fields (take k (tableIn t .marks))) end
+Inv-loop buffer₀ at t n end₀ k₀ buffer end k = (k ≤ n) × (length buffer ≡ length buffer₀) × WroteShort (fieldRoom * k) buffer₀ buffer at (fields (take k (tableIn t .marks))) end
 
 abbrev μ-loop : tie.MeasureT-loop
 μ-loop buffer₀ at t n end₀ k₀ buffer end k = n - k
