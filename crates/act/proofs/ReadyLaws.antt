@@ -36,7 +36,7 @@ module _ (t : Table) (a : List ℕ) (z : first (refusals t a) ≡ 0) where
   common = first-later 0 (commonRefusals t a) (ownRefusals t (actionOf a)) tt z
 
   form : NoneHold (formRefusals (count t) a)
-  form = common .0 .1
+  form = λ k. form-of k (common .0 k)
 
   pub sized : length a ≡ 8
   sized = kind-known (count t) a form .0
@@ -81,8 +81,7 @@ module _ (b a : List ℕ) (z : first (refusals (tableIn b) a) ≡ 0) where
   unfolding every
   elect-below e =
       let k = named-taken table a z 1 e in
-      let (_, (_, (_, (_, (top, _))))) = k .own in
-      below-top top (here-sound (table-sound (k .sound)) (iOf a) (k .fit .0) .term)
+      below-top (k .own 11) (here-sound (table-sound (k .sound)) (iOf a) (k .fit .0) .term)
 
   pub elect-within : (q : ℕ) → q ≡ setOf a → kindOf a ≡ 1 → within q (count table) ≡ true
   unfolding every
@@ -92,36 +91,32 @@ module _ (b a : List ℕ) (z : first (refusals (tableIn b) a) ≡ 0) where
   unfolding every
   reconfigure-below e =
       let k = named-taken table a z 2 e in
-      let (_, (top, _)) = k .own in
-      below-top top (here-sound (table-sound (k .sound)) (iOf a) (k .fit .0) .config .version)
+      below-top (k .own 11) (here-sound (table-sound (k .sound)) (iOf a) (k .fit .0) .config .version)
 
   pub write-room : kindOf a ≡ 5 → length (server table (iOf a) .log) < positions
   unfolding every
-  write-room e = let (_, (full, _)) = named-taken table a z 5 e .own in above full
+  write-room e = above (named-taken table a z 5 e .own 19)
 
   pub fetch-room : kindOf a ≡ 6 → length (server table (iOf a) .log) < positions
   unfolding every
   fetch-room e =
       let k = named-taken table a z 6 e in
-      let (_, (goes-on, _)) = k .own in
       let l = server table (iOf a) .log in
       let m = server table (jOf a) .log in
-      let longer : length l < length m = less (both-refuted {a = ltb (length l) (length m)} {b = joins l m} goes-on .0) in
+      let longer : length l < length m = less (both-refuted {a = ltb (length l) (length m)} {b = joins l m} (k .own 20) .0) in
       omega (arith, here-sound (table-sound (k .sound)) (jOf a) (k .fit .1) .short)
 
   pub roll-back-some : kindOf a ≡ 7 → 1 ≤ length (server table (iOf a) .log)
   unfolding every
   roll-back-some e =
-      let (_, (behind, _)) = named-taken table a z 7 e .own in
       let l = server table (iOf a) .log in
       let m = server table (jOf a) .log in
-      not-prefix l m (neither {a = not (ltb (last l) (last m))} behind .1)
+      not-prefix l m (neither {a = not (ltb (last l) (last m))} (named-taken table a z 7 e .own 21) .1)
 
   pub commit-some : kindOf a ≡ 8 → 1 ≤ length (server table (iOf a) .log)
   unfolding every
   commit-some e =
-      let (_, (_, (entry, _))) = named-taken table a z 8 e .own in
-      let some : length (server table (iOf a) .log) ≢ 0 = unequal (neither entry .0) in
+      let some : length (server table (iOf a) .log) ≢ 0 = unequal (neither {a = eqb (length (server table (iOf a) .log)) 0} (named-taken table a z 8 e .own 22) .0) in
       omega arith
 
 -- ---- the table after the action

@@ -18,24 +18,24 @@ use Rattle.algorithm.proofs.Logs.{HasEntry}
 use Rattle.algorithm.proofs.Invariant.{Leads}
 use Rattle.algorithm.proofs.Elections.{wins-rise}
 use Rattle.algorithm.proofs.Seen.{view}
-use Rattle.algorithm.proofs.Taken.{held-is, is-held, move}
+use Rattle.algorithm.proofs.Taken.{held-is, is-held, moves}
 use Rattle.algorithm.proofs.Runs.{play-keeps}
-use Rattle.algorithm.proofs.Safe.{Safe, safe-fresh, core-fresh, projects, safe-move}
+use Rattle.algorithm.proofs.Safe.{Safe, safe-fresh, core-fresh, projects, safe-moves}
 use Rattle.algorithm.proofs.Commit.{step-not-24}
 
 -- ---- any table
 
 -- a step with logs and marks left out is a step of the algorithm without them: a taken action of kinds 1 to 4, or no change
 pub logless-step : (t : Table) (a : List ℕ) → logless.Move (core t) (core (step t a .table)) (wonBy t a)
-logless-step t a = projects (move t a)
+logless-step t a = projects (moves t a)
 
-moves : (t : Table) (p : List (List ℕ)) → Moves (core t) (core (play t p .table)) (wonAlong t p)
+logless-play : (t : Table) (p : List (List ℕ)) → Moves (core t) (core (play t p .table)) (wonAlong t p)
 unfolding play wonAlong
-moves t [] = none
-moves t (a ∷ p) = then (logless-step t a) (moves (step t a .table) p)
+logless-play t [] = none
+logless-play t (a ∷ p) = then (logless-step t a) (logless-play (step t a .table) p)
 
 safe-step : (t : Table) (a : List ℕ) → Safe (view t) → Safe (view (step t a .table))
-safe-step t a = safe-move (move t a)
+safe-step t a = safe-moves (moves t a)
 
 never-given : (t : Table) → Safe (view t) → (p : List (List ℕ)) (k : ℕ) → getD (play t p .replies) k 0 ≢ 24
 unfolding play
@@ -52,7 +52,7 @@ module _ (n M : ℕ) (plan : List (List ℕ)) where
 
   -- the terms won rise, so that no term is won by two elections
   pub won-rise : Rising 0 (wonAlong (fresh n M) plan)
-  won-rise = wins-rise (core-fresh n M) (moves (fresh n M) plan)
+  won-rise = wins-rise (core-fresh n M) (logless-play (fresh n M) plan)
 
   -- refusal 24 is never given
   pub not-given-24 : (j : ℕ) → getD (play (fresh n M) plan .replies) j 0 ≢ 24

@@ -7,7 +7,7 @@ use mathlib.Core.Path.{_≡_}
 use lib.Dec.{T}
 use lib.ListN.{length, take}
 use Rattle.members.specs.Members.{All, Majority, Most}
-use Rattle.algorithm.specs.Table.{Log, entryAt, termAt}
+use Rattle.algorithm.specs.Table.{entry, Log, entryAt, termAt}
 use Rattle.algorithm.specs.Comparisons.{last, ahead}
 use Rattle.algorithm.specs.Logless as logless
 use Rattle.algorithm.specs.Logless.{State}
@@ -69,21 +69,32 @@ Allowed v (commit i q) = CanCommit v i q
 
 abbrev pub after : View → Action → View
 after v (config a) = record { core = logless.after (v .core) a; log = v .log; mark = v .mark }
-after v (write i) = record { core = v .core; log = put (v .log) i (v .log i ++ (record { term = v .core i .term } ∷ [])); mark = v .mark }
+after v (write i) = record { core = v .core; log = put (v .log) i (v .log i ++ (entry (v .core i .term) ∷ [])); mark = v .mark }
 after v (fetch i j) =
     record { core = v .core; log = put (v .log) i (v .log i ++ (entryAt (v .log j) (length (v .log i) + 1) ∷ [])); mark = v .mark }
 after v (roll-back i j) = record { core = v .core; log = put (v .log) i (take (length (v .log i) - 1) (v .log i)); mark = v .mark }
 after v (commit i q) = record { core = v .core; log = v .log; mark = put (v .mark) (length (v .log i)) (v .core i .term) }
 
--- the terms that an action wins
-abbrev pub won : View → Action → List ℕ
-won v (config a) = logless.won (v .core) a
-won v (write i) = []
-won v (fetch i j) = []
-won v (roll-back i j) = []
-won v (commit i q) = []
+-- an action on logs and marks alone
+abbrev pub OnLogs : Action → Type 0
+OnLogs (config a) = ⊥
+OnLogs (write i) = Unit {0}
+OnLogs (fetch i j) = Unit {0}
+OnLogs (roll-back i j) = Unit {0}
+OnLogs (commit i q) = Unit {0}
 
--- One step from v to v′, with the terms ts won: an allowed action is taken, or nothing changes.
-pub data Move (v : View) : View → List ℕ → Type 0 where
-  rests : Move v v []
-  takes : (a : Action) → Allowed v a → Move v (after v a) (won v a)
+-- Allowed actions on logs and marks, one after another.
+pub data LogMoves : View → View → Type 0 where
+  none : {v : View} → LogMoves v v
+  then : {v v′ : View} (a : Action) → OnLogs a → Allowed v a → LogMoves (after v a) v′ → LogMoves v v′
+
+-- What a step of a table is, from v to v′, with the terms ts won: one allowed action on configurations, or any number on logs and marks.
+pub data Moves (v : View) : View → List ℕ → Type 0 where
+  sets : (a : logless.Action) → Allowed v (config a) → Moves v (after v (config a)) (logless.won (v .core) a)
+  logs : {v′ : View} → LogMoves v v′ → Moves v v′ []
+
+pub rests : {v : View} → Moves v v []
+rests = logs none
+
+pub one : {v : View} (a : Action) → OnLogs a → Allowed v a → Moves v (after v a) []
+one a o can = logs (then a o can none)

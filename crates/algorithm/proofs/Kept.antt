@@ -10,7 +10,7 @@ use lib.ListN.{length, take, length-append, length-take, length-replicate}
 use Rattle.members.specs.Members.{within}
 use Rattle.words.proofs.Tests.{Passes, Fails, together, refuted, both-refuted, equal, unequal, less, above, is-at-most}
 use Rattle.words.specs.Lists.{every}
-use Rattle.algorithm.specs.Table.{Log, Table, count, server, primary, termAt, withServer, changed, withConfig, withLog, withEntry, ceiling, positions, soundEntry, soundServer, broken, freshServer, fresh}
+use Rattle.algorithm.specs.Table.{Entry, entry, Log, Table, count, server, primary, entryAt, withServer, changed, withConfig, withLog, withEntry, ceiling, positions, soundEntry, soundServer, broken, freshServer, fresh}
 use Rattle.algorithm.specs.Actions.{Action, elect, reconfigure, commit, send, spread, fetch, rollBack, write, unknown, actionOf, steppedDown, winner, nextConfig, joins}
 use Rattle.algorithm.specs.Run.{after, step}
 use Rattle.words.proofs.Lists.{every-nth, every-plus, every-take, every-replicate}
@@ -23,13 +23,13 @@ module _ {t : Table} (h : SoundTable t) (i : ℕ) (a : SoundServer (count t) (se
   log-sound l short e =
       with-sound h i (withLog l (server t i)) (record { role = a .role; term = a .term; config = a .config; short = short; entries = e })
 
-  entry-sound : (v : ℕ) → length (server t i .log) < positions → Passes (soundEntry (record { term = v })) → SoundTable (changed t i (withEntry v))
-  entry-sound v short s =
-      log-sound (server t i .log ++ (record { term = v } ∷ [])) (omega (arith, length-append (server t i .log) (record { term = v } ∷ [])))
-      (every-plus soundEntry (server t i .log) (record { term = v }) (a .entries) s)
+  entry-sound : (e : Entry) → length (server t i .log) < positions → Passes (soundEntry e) → SoundTable (changed t i (withEntry e))
+  entry-sound e short s =
+      log-sound (server t i .log ++ (e ∷ [])) (omega (arith, length-append (server t i .log) (e ∷ [])))
+      (every-plus soundEntry (server t i .log) e (a .entries) s)
 
   -- a primary's term can be an entry
-  primary-term : Fails (not (primary (server t i))) → Passes (soundEntry (record { term = server t i .term }))
+  primary-term : Fails (not (primary (server t i))) → Passes (soundEntry (entry (server t i .term)))
   primary-term p =
       let e : server t i .role ≡ 1 = equal (refuted p) in
       let some : 1 ≤ server t i .term = ⊎-elim (λ r. r .1) (λ r. absurd (omega arith)) (a .role) in
@@ -41,9 +41,8 @@ after-sound t unknown k = table-sound (k .sound)
 after-sound t (elect i q) k =
     let h = table-sound (k .sound) in
     let a = here-sound h i (k .fit .0) in
-    let (_, (_, (_, (_, (below, _))))) = k .own in
     let T′ : ℕ = server t i .term + 1 in
-    let not-top : server t i .term ≢ ceiling = unequal below in
+    let not-top : server t i .term ≢ ceiling = unequal (k .own 11) in
     let top : T′ ≤ ceiling = omega (arith, a .term) in
     with-sound (voted-sound h q T′ top) i (winner T′ (server t i))
     (subst (λ (n : ℕ). SoundServer n (winner T′ (server t i))) (sym (count-voted q T′ t))
@@ -57,8 +56,7 @@ after-sound t (elect i q) k =
 after-sound t (reconfigure i m) k =
     let h = table-sound (k .sound) in
     let a = here-sound h i (k .fit .0) in
-    let (_, (below, _)) = k .own in
-    let not-top : server t i .config .version ≢ ceiling = unequal below in
+    let not-top : server t i .config .version ≢ ceiling = unequal (k .own 11) in
     with-sound h i (withConfig (nextConfig m (server t i .config)) (server t i))
     (record {
       role = a .role;
@@ -80,18 +78,16 @@ after-sound t (spread i j) k =
 after-sound t (write i) k =
     let h = table-sound (k .sound) in
     let a = here-sound h i (k .fit) in
-    let (leads, (room, _)) = k .own in
-    entry-sound h i a (server t i .term) (above room) (primary-term h i a leads)
+    entry-sound h i a (entry (server t i .term)) (above (k .own 19)) (primary-term h i a (k .own 6))
 after-sound t (fetch i j) k =
     let h = table-sound (k .sound) in
     let b = here-sound h j (k .fit .1) in
-    let (_, (goes-on, _)) = k .own in
     let l : Log = server t i .log in
     let m : Log = server t j .log in
-    let (first, _) = both-refuted {a = ltb (length l) (length m)} {b = joins l m} goes-on in
+    let (first, _) = both-refuted {a = ltb (length l) (length m)} {b = joins l m} (k .own 20) in
     let longer : length l < length m = less first in
-    entry-sound h i (here-sound h i (k .fit .0)) (termAt m (length l + 1)) (omega (arith, b .short))
-    (every-nth soundEntry m (length l + 1) (record { term = 0 }) (b .entries) (omega arith) (omega arith))
+    entry-sound h i (here-sound h i (k .fit .0)) (entryAt m (length l + 1)) (omega (arith, b .short))
+    (every-nth soundEntry m (length l + 1) (entry 0) (b .entries) (omega arith) (omega arith))
 after-sound t (rollBack i j) k =
     let h = table-sound (k .sound) in
     let a = here-sound h i (k .fit .0) in

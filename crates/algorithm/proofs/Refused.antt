@@ -1,7 +1,7 @@
 -- What a step does where no refusal holds, and where one does. Assumes nothing.
 use Prim.Native.Nat.{ℕ, zero, suc, _<_}
 use mathlib.Core.Bool.{Bool, true, false, not, _||_, _&&_}
-use mathlib.Core.List.{List, [], append-nil}
+use mathlib.Core.List.{List, []}
 use mathlib.Core.Logic.{_⊎_, inl, inr, ⊎-elim}
 use mathlib.Core.Path.{_≡_, refl}
 use native.Mathlib.Omega.{arith}
@@ -9,7 +9,7 @@ use lib.Dec.{T, eqb}
 use lib.ListN.{getD}
 use borrow.Author.Tests.{eqb-true}
 use Rattle.members.specs.Members.{within}
-use Rattle.words.proofs.RefusalLaws.{NoneHold, first-later, ascending, numbered}
+use Rattle.words.proofs.RefusalLaws.{NoneHold, lacks, first-later, none-hold, ascending}
 use Rattle.words.proofs.Tests.{Passes, Fails, neither, refuted, both-refuted}
 use Rattle.algorithm.specs.Table.{Table, count, broken}
 use Rattle.words.specs.Lists.{every}
@@ -19,24 +19,25 @@ use Rattle.algorithm.specs.Refusals.{known, commonRefusals, ownRefusals,
 use Rattle.algorithm.specs.Run.{after, step}
 use Rattle.algorithm.specs.Demand.{wins, wonBy}
 
--- ---- the order of an action's refusals
+-- ---- the numbers of an action's refusals
 
-own-ascending : (t : Table) (a : Action) → T (ascending 5 (ownRefusals t a))
-unfolding ascending
-own-ascending t unknown = tt
-own-ascending t (elect i q) = tt
-own-ascending t (reconfigure i m) = tt
-own-ascending t (send i j) = tt
-own-ascending t (spread i j) = tt
-own-ascending t (write i) = tt
-own-ascending t (fetch i j) = tt
-own-ascending t (rollBack i j) = tt
-own-ascending t (commit i q) = tt
+-- none is 0, and each is larger than the one before it
+own-numbers : (t : Table) (a : Action) → T (lacks 0 (ownRefusals t a)) × T (ascending 5 (ownRefusals t a))
+unfolding every ascending
+own-numbers t unknown = (tt, tt)
+own-numbers t (elect i q) = (tt, tt)
+own-numbers t (reconfigure i m) = (tt, tt)
+own-numbers t (send i j) = (tt, tt)
+own-numbers t (spread i j) = (tt, tt)
+own-numbers t (write i) = (tt, tt)
+own-numbers t (fetch i j) = (tt, tt)
+own-numbers t (rollBack i j) = (tt, tt)
+own-numbers t (commit i q) = (tt, tt)
 
 -- the refusals of an action stand lowest first, so that the first that holds is the lowest
 pub lowest-first : (t : Table) (a : List ℕ) → T (ascending 0 (refusals t a))
 unfolding ascending refusals
-lowest-first t a = own-ascending t (actionOf a)
+lowest-first t a = own-numbers t (actionOf a) .1
 
 -- ---- an action whose servers and set are those of a table of n servers
 
@@ -75,17 +76,15 @@ pub record Taken (t : Table) (a : Action) : Type 0 where
 
 -- 1 to 5 do not hold: the table keeps the rules, and the action fits it
 pub common-fit : (t : Table) (a : List ℕ) → NoneHold (commonRefusals t a) → Fails (broken t) × Fits (count t) (actionOf a)
-common-fit t a (sound, (_, (_, (servers, (sets, _))))) =
-    (sound, fits (count t) (kindOf a) (iOf a) (jOf a) (setOf a) servers sets)
+common-fit t a none = (none 1, fits (count t) (kindOf a) (iOf a) (jOf a) (setOf a) (none 4) (none 5))
 
 -- an action that gets 0 is taken
 pub taken : (t : Table) (a : List ℕ) → first (refusals t a) ≡ 0 → Taken t (actionOf a)
 unfolding refusals every
 taken t a e =
     let (form, later) = first-later 0 (commonRefusals t a) (ownRefusals t (actionOf a)) tt e in
-    let (own, _) = first-later 0 (ownRefusals t (actionOf a)) [] (numbered 5 (ownRefusals t (actionOf a)) (own-ascending t (actionOf a))) (rw append-nil later) in
     let (sound, fit) = common-fit t a form in
-    record { sound = sound; fit = fit; own = own }
+    record { sound = sound; fit = fit; own = none-hold (ownRefusals t (actionOf a)) (own-numbers t (actionOf a) .0) later }
 
 -- a step that is taken gives the table after its action
 pub record Done (t : Table) (a : List ℕ) : Type 0 where

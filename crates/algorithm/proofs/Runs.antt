@@ -6,6 +6,7 @@ use mathlib.Core.Logic.{_≢_, ⊎-elim}
 use mathlib.Core.Path.{_≡_, refl, sym, ap, _∙_}
 use native.Mathlib.Numerals.{add-one}
 use native.Mathlib.Omega.{arith}
+use lib.Dec.{eqb}
 use lib.ListN.{length, take, drop, length-append, length-drop}
 use lib.Seq.{take-append-le, drop-append-le, drop-drop}
 use Rattle.words.proofs.Tests.{Fails, fails-false, false-fails, neither, one-refuted, equal, unequal}
@@ -108,13 +109,12 @@ commit-marks : (t : Table) (i q : ℕ) → Taken t (commit i q) → (p : ℕ) �
 unfolding after
 commit-marks t i q k p o =
     let h = table-sound (k .sound) in
-    let (_, (_, (entry, (_, (other, _))))) = k .own in
     let at : ℕ = length (server t i .log) in
-    let (empty, _) = neither entry in
+    let (empty, _) = neither {a = eqb at 0} (k .own 22) in
     let some : at ≢ 0 = unequal empty in
     nth-replace (t .marks) at (server t i .term) 0 (omega arith) (omega (arith, h .full, here-sound h i (k .fit .0) .short)) p
     ∙ put-elim (λ n x. 0 < mark t n → x ≡ mark t n)
-    (λ m. ⊎-elim (λ z. let e : mark t at ≡ 0 = equal z in absurd (omega arith)) (λ e. sym (equal e)) (one-refuted other))
+    (λ m. ⊎-elim (λ z. let e : mark t at ≡ 0 = equal z in absurd (omega arith)) (λ e. sym (equal e)) (one-refuted (k .own 24)))
     (λ n _. refl) p o
 
 marks-after : (t : Table) (a : Action) → Taken t a → (p : ℕ) → 0 < mark t p → mark (after t a) p ≡ mark t p

@@ -11,8 +11,9 @@ use Rattle.algorithm.specs.Logless as logless
 use Rattle.algorithm.specs.Logless.{core, Fresh}
 use Rattle.algorithm.proofs.Logs.{HasEntry}
 use Rattle.algorithm.proofs.Invariant.{Inv}
-use Rattle.algorithm.proofs.Elections.{inv-fresh, inv-move}
-use Rattle.algorithm.proofs.Full.{View, Marked, write, Move, config, fetch, roll-back, commit, rests, takes}
+use Rattle.algorithm.proofs.Steps.{inv-after}
+use Rattle.algorithm.proofs.Elections.{inv-fresh}
+use Rattle.algorithm.proofs.Full.{View, Marked, Action, config, write, fetch, roll-back, commit, Allowed, after, LogMoves, none, then, Moves, sets, logs}
 use Rattle.algorithm.proofs.Seen.{view, server-fresh}
 use Rattle.algorithm.proofs.LogInvariant.{LogInv}
 use Rattle.algorithm.proofs.Safety.{logs-after}
@@ -65,18 +66,27 @@ module _ (n M : ℕ) where
 
 -- ---- a step
 
--- with logs and marks left out, a step is one of the algorithm without them
-pub projects : {v v′ : View} {ts : List ℕ} → Move v v′ ts → logless.Move (v .core) (v′ .core) ts
-projects rests = logless.rests
-projects (takes (config a) (can, _)) = logless.takes a can
-projects (takes (write i) can) = logless.rests
-projects (takes (fetch i j) can) = logless.rests
-projects (takes (roll-back i j) can) = logless.rests
-projects (takes (commit i q) can) = logless.rests
+-- actions on logs and marks leave the rest as it is
+core-stays : {v v′ : View} → LogMoves v v′ → v′ .core ≡ v .core
+core-stays none = refl
+core-stays (then (write i) o can more) = core-stays more
+core-stays (then (fetch i j) o can more) = core-stays more
+core-stays (then (roll-back i j) o can more) = core-stays more
+core-stays (then (commit i q) o can more) = core-stays more
 
-pub safe-move : {v v′ : View} {ts : List ℕ} → Move v v′ ts → Safe v → Safe v′
-safe-move rests safe = safe
-safe-move {v} (takes a can) safe = record {
-  configs = inv-move (projects (takes a can)) (safe .configs);
-  logs = logs-after v (safe .configs) (safe .logs) a can;
-}
+-- with logs and marks left out, a step is one of the algorithm without them
+pub projects : {v v′ : View} {ts : List ℕ} → Moves v v′ ts → logless.Move (v .core) (v′ .core) ts
+projects (sets a (can, _)) = logless.takes a can
+projects {v} (logs m) = rw (core-stays m) logless.rests
+
+safe-after : {v : View} (a : Action) → Allowed v a → Inv (after v a .core) → Safe v → Safe (after v a)
+safe-after {v} a can inv safe = record { configs = inv; logs = logs-after v (safe .configs) (safe .logs) a can }
+
+safe-logs : {v v′ : View} → LogMoves v v′ → Safe v → Safe v′
+safe-logs none safe = safe
+safe-logs {v} (then a o can more) safe =
+    safe-logs more (safe-after a can (rw (core-stays (then a o can none)) (safe .configs)) safe)
+
+pub safe-moves : {v v′ : View} {ts : List ℕ} → Moves v v′ ts → Safe v → Safe v′
+safe-moves (sets a can) safe = safe-after (config a) can (inv-after (safe .configs) a (can .0)) safe
+safe-moves (logs m) safe = safe-logs m safe

@@ -1,7 +1,7 @@
--- A taken action of the algorithm is a step of the theory: what each test of a refusal means, kind by kind. Assumes nothing.
+-- A taken action of the algorithm is moves of the theory: what each test of a refusal means, kind by kind. Assumes nothing.
 use Prim.Native.Nat.{ℕ, zero, suc, _+_, _-_, _^_, _≤_, _<_}
 use mathlib.Core.Bool.{not, _||_}
-use mathlib.Core.List.{List, [], _∷_, _++_}
+use mathlib.Core.List.{List, [], _∷_}
 use mathlib.Core.Logic.{_≢_, inl, inr, ⊎-elim}
 use mathlib.Core.Path.{_≡_, refl, sym, ap, _∙_, subst}
 use native.Mathlib.Nat.{eq-or-lt-of-le}
@@ -13,20 +13,21 @@ use Rattle.members.specs.Members.{member, within, majority}
 use Rattle.words.proofs.Tests.{Passes, both, together, either, neither, refuted, contradiction, both-refuted, equal, unequal, less, not-less, at-most, is-equal, is-at-most}
 use Rattle.members.proofs.Majorities.{majority-is, one-apart, most-map, all-pass, none-passes, most-pass}
 use Rattle.words.specs.Lists.{nth, put}
-use Rattle.algorithm.specs.Table.{Log, Server, Table, count, server, primary, entryAt, mark, withConfig, withLog, positions}
-use Rattle.algorithm.specs.Comparisons.{newer, held, prefix}
-use Rattle.algorithm.specs.Actions.{Action, elect, reconfigure, commit, send, spread, fetch, rollBack, write, unknown, actionOf, steppedDown, voted, winner, electAfter, someMarked, holdsMarked, p1, nextConfig, reconfigureAfter, sendAfter, spreadAfter, writeAfter, fetchAfter, rollBackAfter, commitRefusals, commitAfter}
+use Rattle.words.specs.Refusal.{refuse}
+use Rattle.algorithm.specs.Table.{Log, Server, Table, count, server, primary, entry, entryAt, mark, withConfig, withEntry, withLog, positions}
+use Rattle.algorithm.specs.Comparisons.{newer, last, held, prefix}
+use Rattle.algorithm.specs.Actions.{Action, elect, reconfigure, commit, send, spread, fetch, rollBack, write, unknown, actionOf, steppedDown, voted, winner, electAfter, someMarked, holdsMarked, p1, markedOtherwise, nextConfig, reconfigureAfter, sendAfter, spreadAfter, writeAfter, fetchAfter, rollBackAfter, entryRefusals, commitAfter}
 use Rattle.algorithm.specs.Refusals.{known}
 use Rattle.algorithm.specs.Run.{after, step}
 use Rattle.algorithm.specs.Demand.{wins, wonBy}
 use Rattle.algorithm.specs.Logless as logless
 use Rattle.algorithm.specs.Logless.{core}
 use Rattle.words.proofs.Lists.{nth-replace}
-use Rattle.words.proofs.RefusalLaws.{NoneHold}
+use Rattle.words.proofs.RefusalLaws.{NoneHold, none-before}
 use Rattle.algorithm.proofs.Refused.{Taken, outcome}
 use Rattle.algorithm.proofs.Logs.{HasEntry, Prefix}
 use Rattle.algorithm.proofs.Full as full
-use Rattle.algorithm.proofs.Full.{View, Settled, CanCommit, Move, rests, takes}
+use Rattle.algorithm.proofs.Full.{View, Settled, CanCommit, Moves, sets, rests, one}
 use Rattle.algorithm.proofs.Seen.{view, view-is, within-width, view-core, view-log, count-voted, log-voted, core-voted}
 use Rattle.algorithm.proofs.Sound.{SoundTable, table-sound, here-sound}
 
@@ -81,9 +82,9 @@ mark-range {t} h (suc k) o = (omega arith, go (decLe (suc k) positions))
 
 -- ---- kind by kind
 
--- a view that is another's is reached by the same step
-moved : {v v′ : View} {ts : List ℕ} (t : Table) → view t ≡ v′ → Move v v′ ts → Move v (view t) ts
-moved {v} {ts = ts} t e m = subst (λ w. Move v w ts) (sym e) m
+-- a view that is another's is reached by the same moves
+moved : {v v′ : View} {ts : List ℕ} (t : Table) → view t ≡ v′ → Moves v v′ ts → Moves v (view t) ts
+moved {v} {ts = ts} t e m = subst (λ w. Moves v w ts) (sym e) m
 
 module _ (t : Table) (i q : ℕ) (k : Taken t (elect i q)) where
   elect-view : view (electAfter t i q) ≡ full.after (view t) (full.config (logless.elect i q))
@@ -97,19 +98,18 @@ module _ (t : Table) (i q : ℕ) (k : Taken t (elect i q)) where
         mark = mark t;
       })
 
-  elect-move : Move (view t) (view (electAfter t i q)) (wins t (elect i q))
-  elect-move =
-      let (voters, (terms, (configs, (logs, _)))) = k .own in
+  elect-moves : Moves (view t) (view (electAfter t i q)) (wins t (elect i q))
+  elect-moves =
       let width = within-width (count t) (k .fit .1) in
-      let (most, self) = both-refuted {a = majority q (server t i .config .set)} {b = member i q} voters in
-      moved (electAfter t i q) elect-view (takes (full.config (logless.elect i q)) (
+      let (most, self) = both-refuted {a = majority q (server t i .config .set)} {b = member i q} (k .own 7) in
+      moved (electAfter t i q) elect-view (sets (logless.elect i q) (
         record {
           majority = majority-is most;
           self = self .yes;
-          terms = λ s m. not-less (none-passes (count t) q width _ terms s m);
-          configs = λ s m. none-passes (count t) q width _ configs s m .no;
+          terms = λ s m. not-less (none-passes (count t) q width _ (k .own 8) s m);
+          configs = λ s m. none-passes (count t) q width _ (k .own 9) s m .no;
         },
-        λ s m. none-passes (count t) q width _ logs s m .no,
+        λ s m. none-passes (count t) q width _ (k .own 10) s m .no,
       ))
 
 module _ (t : Table) (i m : ℕ) (k : Taken t (reconfigure i m)) where
@@ -139,21 +139,20 @@ module _ (t : Table) (i m : ℕ) (k : Taken t (reconfigure i m)) where
             (most-pass (count t) (a .config .set) width _ most);
       }
 
-  reconfigure-move : Move (view t) (view (reconfigureAfter t i m)) []
-  reconfigure-move =
-      let (role, (_, (self, (apart, (first, (second, (third, _))))))) = k .own in
-      let leads : a .role ≡ 1 = equal (refuted role) in
-      let in-set : Passes (member i m) = refuted self in
+  reconfigure-moves : Moves (view t) (view (reconfigureAfter t i m)) []
+  reconfigure-moves =
+      let leads : a .role ≡ 1 = equal (refuted (k .own 6)) in
+      let in-set : Passes (member i m) = refuted (k .own 12) in
       moved (reconfigureAfter t i m) (view-core t i (withConfig (nextConfig m (a .config)) a) (k .fit .0) refl)
-      (takes (full.config (logless.reconfigure i m)) (
+      (sets (logless.reconfigure i m) (
         record {
           primary = leads;
           self = in-set .yes;
-          meet = one-apart (refuted apart);
-          Q1 = most-map (λ s u. let (version, term) = both u in (equal version, equal term)) (most-pass (count t) (a .config .set) width _ (refuted first));
-          Q2 = most-map (λ s u. equal u) (most-pass (count t) (a .config .set) width _ (refuted second));
+          meet = one-apart (refuted (k .own 13));
+          Q1 = most-map (λ s u. let (version, term) = both u in (equal version, equal term)) (most-pass (count t) (a .config .set) width _ (refuted (k .own 14)));
+          Q2 = most-map (λ s u. equal u) (most-pass (count t) (a .config .set) width _ (refuted (k .own 15)));
         },
-        settled (refuted third) leads,
+        settled (refuted (k .own 16)) leads,
       ))
 
 module _ (t : Table) (i j : ℕ) where
@@ -163,85 +162,82 @@ module _ (t : Table) (i j : ℕ) where
   abbrev m : Log
   m = server t j .log
 
-  send-move : Taken t (send i j) → Move (view t) (view (sendAfter t i j)) []
-  send-move k =
-      let (roles, (later, _)) = k .own in
-      let (_, receiver) = neither {a = not (primary (server t i))} roles in
-      let newer : Passes (newer (server t i .config) (server t j .config)) = refuted later in
+  send-moves : Taken t (send i j) → Moves (view t) (view (sendAfter t i j)) []
+  send-moves k =
+      let (_, receiver) = neither {a = not (primary (server t i))} (k .own 6) in
+      let newer : Passes (newer (server t i .config) (server t j .config)) = refuted (k .own 17) in
       moved (sendAfter t i j) (view-core t j (withConfig (server t i .config) (server t j)) (k .fit .1) refl)
-      (takes (full.config (logless.send i j)) (record { secondary = equal (refuted receiver); newer = newer .yes }, tt))
+      (sets (logless.send i j) (record { secondary = equal (refuted receiver); newer = newer .yes }, tt))
 
-  spread-move : Taken t (spread i j) → Move (view t) (view (spreadAfter t i j)) []
-  spread-move k =
-      let (larger, _) = k .own in
+  spread-moves : Taken t (spread i j) → Moves (view t) (view (spreadAfter t i j)) []
+  spread-moves k =
       moved (spreadAfter t i j) (view-core t j (steppedDown (server t i .term) (server t j)) (k .fit .1) refl)
-      (takes (full.config (logless.spread i j)) (less (refuted larger), tt))
+      (sets (logless.spread i j) (less (refuted (k .own 18)), tt))
 
-  fetch-move : Taken t (fetch i j) → Move (view t) (view (fetchAfter t i j)) []
-  fetch-move k =
-      let (role, (goes-on, _)) = k .own in
-      let (longer, joined) = both-refuted {a = ltb (length l) (length m)} goes-on in
-      moved (fetchAfter t i j) (view-log t i (withLog (l ++ (entryAt m (length l + 1) ∷ [])) (server t i)) (k .fit .0) refl)
-      (takes (full.fetch i j) (record {
-        secondary = equal (refuted role);
+  fetch-moves : Taken t (fetch i j) → Moves (view t) (view (fetchAfter t i j)) []
+  fetch-moves k =
+      let (longer, joined) = both-refuted {a = ltb (length l) (length m)} (k .own 20) in
+      moved (fetchAfter t i j) (view-log t i (withEntry (entryAt m (length l + 1)) (server t i)) (k .fit .0) refl)
+      (one (full.fetch i j) tt (record {
+        secondary = equal (refuted (k .own 6));
         longer = less longer;
         same = ⊎-elim (λ z. inl (equal z)) (λ e. inr (equal e)) (either joined);
       }))
 
-  roll-back-move : Taken t (rollBack i j) → Move (view t) (view (rollBackAfter t i j)) []
-  roll-back-move k =
-      let (role, (behind, _)) = k .own in
-      let (smaller, apart) = neither behind in
+  roll-back-moves : Taken t (rollBack i j) → Moves (view t) (view (rollBackAfter t i j)) []
+  roll-back-moves k =
+      let (smaller, apart) = neither {a = not (ltb (last l) (last m))} (k .own 21) in
       moved (rollBackAfter t i j) (view-log t i (withLog (take (length l - 1) l) (server t i)) (k .fit .0) refl)
-      (takes (full.roll-back i j) (record {
-        secondary = equal (refuted role);
+      (one (full.roll-back i j) tt (record {
+        secondary = equal (refuted (k .own 6));
         less = less (refuted smaller);
         no-prefix = λ f. contradiction apart (is-prefix l m f);
       }))
 
-write-move : (t : Table) (i : ℕ) → Taken t (write i) → Move (view t) (view (writeAfter t i)) []
-write-move t i k =
-    let (role, _) = k .own in
-    moved (writeAfter t i) (view-log t i (withLog (server t i .log ++ (record { term = server t i .term } ∷ [])) (server t i)) (k .fit) refl)
-    (takes (full.write i) (equal (refuted role)))
+write-moves : (t : Table) (i : ℕ) → Taken t (write i) → Moves (view t) (view (writeAfter t i)) []
+write-moves t i k =
+    moved (writeAfter t i) (view-log t i (withEntry (entry (server t i .term)) (server t i)) (k .fit) refl)
+    (one (full.write i) tt (equal (refuted (k .own 6))))
 
 -- what the refusals before 24 ask of a commit
-pub can-commit : (t : Table) (i q : ℕ) → Passes (within q (count t)) → NoneHold (take 4 (commitRefusals t i q)) → CanCommit (view t) i q
-can-commit t i q sets (role, (voters, (entry, (members, _)))) =
-    let (empty, other) = neither entry in
+pub can-commit : (t : Table) (i q : ℕ) → Passes (within q (count t)) → NoneHold (entryRefusals t i q) → CanCommit (view t) i q
+can-commit t i q fits none =
+    let (empty, other) = neither {a = eqb (length (server t i .log)) 0} (none 22) in
     let some : length (server t i .log) ≢ 0 = unequal empty in
     record {
-      primary = equal (refuted role);
-      majority = majority-is (refuted voters);
+      primary = equal (refuted (none 6));
+      majority = majority-is (refuted (none 7));
       some = omega arith;
       own = equal (refuted other);
-      held = λ s v. let (term, holds) = both (all-pass (count t) q (within-width (count t) sets) _ (refuted members) s v) in (equal term, held-is holds);
+      held = λ s v. let (term, holds) = both (all-pass (count t) q (within-width (count t) fits) _ (refuted (none 23)) s v) in (equal term, held-is holds);
     }
 
-commit-move : (t : Table) (i q : ℕ) → Taken t (commit i q) → Move (view t) (view (commitAfter t i q)) []
-commit-move t i q k =
-    let h = table-sound (k .sound) in
-    let (role, (voters, (entry, (members, _)))) = k .own in
-    let can : CanCommit (view t) i q = can-commit t i q (k .fit .1) (role, (voters, (entry, (members, tt)))) in
-    moved (commitAfter t i q)
-    (view-is (commitAfter t i q) (λ n. refl) (λ n. refl)
-    (nth-replace (t .marks) (length (server t i .log)) (server t i .term) 0 (can .some) (omega (arith, h .full, here-sound h i (k .fit .0) .short))))
-    (takes (full.commit i q) can)
+module _ (t : Table) (i q : ℕ) (k : Taken t (commit i q)) where
+  can : CanCommit (view t) i q
+  can = can-commit t i q (k .fit .1) (none-before (entryRefusals t i q) (refuse 24 (markedOtherwise t i) ∷ []) (k .own))
+
+  commit-moves : Moves (view t) (view (commitAfter t i q)) []
+  commit-moves =
+      let h = table-sound (k .sound) in
+      moved (commitAfter t i q)
+      (view-is (commitAfter t i q) (λ n. refl) (λ n. refl)
+      (nth-replace (t .marks) (length (server t i .log)) (server t i .term) 0 (can .some) (omega (arith, h .full, here-sound h i (k .fit .0) .short))))
+      (one (full.commit i q) tt can)
 
 -- ---- every step
 
-taken-move : (t : Table) (a : Action) → Taken t a → Move (view t) (view (after t a)) (wins t a)
+taken-moves : (t : Table) (a : Action) → Taken t a → Moves (view t) (view (after t a)) (wins t a)
 unfolding after
-taken-move t unknown k = rests
-taken-move t (elect i q) k = elect-move t i q k
-taken-move t (reconfigure i m) k = reconfigure-move t i m k
-taken-move t (send i j) k = send-move t i j k
-taken-move t (spread i j) k = spread-move t i j k
-taken-move t (write i) k = write-move t i k
-taken-move t (fetch i j) k = fetch-move t i j k
-taken-move t (rollBack i j) k = roll-back-move t i j k
-taken-move t (commit i q) k = commit-move t i q k
+taken-moves t unknown k = rests
+taken-moves t (elect i q) k = elect-moves t i q k
+taken-moves t (reconfigure i m) k = reconfigure-moves t i m k
+taken-moves t (send i j) k = send-moves t i j k
+taken-moves t (spread i j) k = spread-moves t i j k
+taken-moves t (write i) k = write-moves t i k
+taken-moves t (fetch i j) k = fetch-moves t i j k
+taken-moves t (rollBack i j) k = roll-back-moves t i j k
+taken-moves t (commit i q) k = commit-moves t i q k
 
--- whatever table and bytes: a step of the algorithm is a step of the theory
-pub move : (t : Table) (a : List ℕ) → Move (view t) (view (step t a .table)) (wonBy t a)
-move t a = ⊎-elim (λ d. rw (d .table, d .won) (taken-move t (actionOf a) (d .taken))) (λ r. rw (r .table, r .won) rests) (outcome t a)
+-- whatever table and bytes: a step of the algorithm is moves of the theory
+pub moves : (t : Table) (a : List ℕ) → Moves (view t) (view (step t a .table)) (wonBy t a)
+moves t a = ⊎-elim (λ d. rw (d .table, d .won) (taken-moves t (actionOf a) (d .taken))) (λ r. rw (r .table, r .won) rests) (outcome t a)

@@ -2,13 +2,13 @@
 -- A byte is any number here; those that come from a slice are below 256. Assumes nothing.
 use Prim.Native.Nat.{ℕ, zero, suc, _+_}
 use mathlib.Core.Bool.{Bool, true, false, cond, not, _||_, _&&_}
-use mathlib.Core.List.{List, [], _∷_}
+use mathlib.Core.List.{List, [], _∷_, _++_}
 use lib.Dec.{leb, ltb, eqb}
 use lib.ListN.{length, getD}
 use Rattle.words.specs.Words.{pairOf}
 use Rattle.words.specs.Refusal.{Refusal, refuse}
 use Rattle.members.specs.Members.{member, oneApart, majority, allPass, somePass, mostPass}
-use Rattle.algorithm.specs.Table.{Config, Log, Server, Table, count, server, primary, secondary, termAt, mark, withServer, changed, withMark, withConfig, withEntry, withoutLast, ceiling, positions}
+use Rattle.algorithm.specs.Table.{Config, configOf, entry, Log, Server, Table, count, server, primary, secondary, entryAt, termAt, mark, withServers, withServer, changed, withMark, withRole, withTerm, withConfig, withEntry, withoutLast, ceiling, positions}
 use Rattle.algorithm.specs.Comparisons.{newer, last, ahead, held, prefix}
 
 -- ---- the bytes by their places: 0 the kind, 1 and 2 servers i and j, 4 and 5 the set; 3, 6 and 7 are 0
@@ -61,7 +61,7 @@ actionOf bs = getD (kinds (iOf bs) (jOf bs) (setOf bs)) (kindOf bs) unknown
 
 -- the server with the term T, secondary
 abbrev pub steppedDown : ℕ → Server → Server
-steppedDown T s = record { role = 0; term = T; config = s .config; log = s .log }
+steppedDown T s = withRole 0 (withTerm T s)
 
 -- ---- 1: elect i by the set Q
 
@@ -77,16 +77,25 @@ newerConfig t i s = newer (server t s .config) (server t i .config)
 abbrev pub logAhead : Table → ℕ → ℕ → Bool
 logAhead t i s = ahead (server t s .log) (server t i .log)
 
--- elect: 7 to 11
-abbrev pub electRefusals : Table → ℕ → ℕ → List Refusal
-electRefusals t i Q =
-    let a = server t i in
-    refuse 7 (not (majority Q (a .config .set)) || not (member i Q))
+-- 7 to 9: the voters, their terms and configurations
+abbrev pub voterRefusals : Table → ℕ → ℕ → List Refusal
+voterRefusals t i Q =
+    refuse 7 (not (majority Q (server t i .config .set)) || not (member i Q))
     ∷ refuse 8 (somePass (count t) (largerTerm t i) Q)
     ∷ refuse 9 (somePass (count t) (newerConfig t i) Q)
-    ∷ refuse 10 (somePass (count t) (logAhead t i) Q)
-    ∷ refuse 11 (eqb (a .term) ceiling)
     ∷ []
+
+-- 10: the voters' logs
+abbrev pub logRefusals : Table → ℕ → ℕ → List Refusal
+logRefusals t i Q = refuse 10 (somePass (count t) (logAhead t i) Q) ∷ []
+
+-- 11: i has the last term
+abbrev pub lastTermRefusals : Table → ℕ → List Refusal
+lastTermRefusals t i = refuse 11 (eqb (server t i .term) ceiling) ∷ []
+
+-- elect: 7 to 11
+abbrev pub electRefusals : Table → ℕ → ℕ → List Refusal
+electRefusals t i Q = voterRefusals t i Q ++ (logRefusals t i Q ++ lastTermRefusals t i)
 
 -- of the servers k, k + 1, .., the members of Q with the term T, secondary; the others as they are
 unfoldable pub votersFrom : ℕ → ℕ → ℕ → List Server → List Server
@@ -95,17 +104,11 @@ votersFrom k Q T (s ∷ ss) = cond (member k Q) (steppedDown T s) s ∷ votersFr
 
 -- every member of Q has the term T and is secondary
 abbrev pub voted : Table → ℕ → ℕ → Table
-voted t Q T = record { servers = votersFrom 1 Q T (t .servers); marks = t .marks }
+voted t Q T = withServers (votersFrom 1 Q T (t .servers)) t
 
 -- the server as primary, with T for its term and its configuration term; its set, version and log stay
 abbrev pub winner : ℕ → Server → Server
-winner T s =
-    record {
-      role = 1;
-      term = T;
-      config = record { set = s .config .set; version = s .config .version; term = T };
-      log = s .log;
-    }
+winner T s = withRole 1 (withTerm T (withConfig (configOf (s .config .set) (s .config .version) T) s))
 
 -- all of Q goes to the term T that follows i's; i is its primary, with T for a configuration term too, and the rest of Q is secondary
 abbrev pub electAfter : Table → ℕ → ℕ → Table
@@ -151,22 +154,31 @@ q2 t i = mostPass (count t) (sameTerm t i) (server t i .config .set)
 abbrev pub p1 : Table → ℕ → Bool
 p1 t i = someMarked (t .marks) (server t i .term) && mostPass (count t) (holdsCommitted t i) (server t i .config .set)
 
--- reconfigure: 6 and 11 to 16
-abbrev pub reconfigureRefusals : Table → ℕ → ℕ → List Refusal
-reconfigureRefusals t i M =
+-- 6 and 11 to 13: the leader and its new set
+abbrev pub newSetRefusals : Table → ℕ → ℕ → List Refusal
+newSetRefusals t i M =
     let a = server t i in
     refuse 6 (not (primary a))
     ∷ refuse 11 (eqb (a .config .version) ceiling)
     ∷ refuse 12 (not (member i M))
     ∷ refuse 13 (not (oneApart (a .config .set) M))
-    ∷ refuse 14 (not (q1 t i))
-    ∷ refuse 15 (not (q2 t i))
-    ∷ refuse 16 (not (p1 t i))
     ∷ []
+
+-- 14 and 15: Q1 and Q2
+abbrev pub majorityRefusals : Table → ℕ → List Refusal
+majorityRefusals t i = refuse 14 (not (q1 t i)) ∷ refuse 15 (not (q2 t i)) ∷ []
+
+-- 16: P1
+abbrev pub markRefusals : Table → ℕ → List Refusal
+markRefusals t i = refuse 16 (not (p1 t i)) ∷ []
+
+-- reconfigure: 6 and 11 to 16
+abbrev pub reconfigureRefusals : Table → ℕ → ℕ → List Refusal
+reconfigureRefusals t i M = newSetRefusals t i M ++ (majorityRefusals t i ++ markRefusals t i)
 
 -- the configuration with the set M and the next version; its term is C's
 abbrev pub nextConfig : ℕ → Config → Config
-nextConfig M C = record { set = M; version = C .version + 1; term = C .term }
+nextConfig M C = configOf M (C .version + 1) (C .term)
 
 -- i's set is M, and its version has grown by 1
 abbrev pub reconfigureAfter : Table → ℕ → ℕ → Table
@@ -207,7 +219,7 @@ writeRefusals t i =
 
 -- i's term stands at the end of its log
 abbrev pub writeAfter : Table → ℕ → Table
-writeAfter t i = changed t i (withEntry (server t i .term))
+writeAfter t i = changed t i (withEntry (entry (server t i .term)))
 
 -- ---- 6: fetch to i from j
 
@@ -226,7 +238,7 @@ fetchRefusals t i j =
 
 -- j's entry behind i's length stands at the end of i's log
 abbrev pub fetchAfter : Table → ℕ → ℕ → Table
-fetchAfter t i j = changed t i (withEntry (termAt (server t j .log) (length (server t i .log) + 1)))
+fetchAfter t i j = changed t i (withEntry (entryAt (server t j .log) (length (server t i .log) + 1)))
 
 -- ---- 7: roll back i against j
 
@@ -247,17 +259,29 @@ rollBackAfter t i j = changed t i withoutLast
 abbrev pub supportsAt : Table → ℕ → ℕ → ℕ → Bool
 supportsAt t i p s = sameTerm t i s && held (server t s .log) p (server t i .term)
 
--- commit: 6, 7 and 22 to 24; i's last entry stands at p, and is of i's term where 22 does not hold
-abbrev pub commitRefusals : Table → ℕ → ℕ → List Refusal
-commitRefusals t i Q =
+-- the server has no entry, or the last one is of another term than its own
+abbrev pub lacksEntry : Server → Bool
+lacksEntry a = eqb (length (a .log)) 0 || not (eqb (last (a .log)) (a .term))
+
+-- the position of i's last entry is marked with another term than i's
+abbrev pub markedOtherwise : Table → ℕ → Bool
+markedOtherwise t i =
+    let m = mark t (length (server t i .log)) in
+    not (eqb m 0) && not (eqb m (server t i .term))
+
+-- 6, 7, 22 and 23: the leader, its voters and its last entry, which is of its own term where 22 does not hold
+abbrev pub entryRefusals : Table → ℕ → ℕ → List Refusal
+entryRefusals t i Q =
     let a = server t i in
-    let p = length (a .log) in
     refuse 6 (not (primary a))
     ∷ refuse 7 (not (majority Q (a .config .set)))
-    ∷ refuse 22 (eqb p 0 || not (eqb (last (a .log)) (a .term)))
-    ∷ refuse 23 (not (allPass (count t) (supportsAt t i p) Q))
-    ∷ refuse 24 (not (eqb (mark t p) 0) && not (eqb (mark t p) (a .term)))
+    ∷ refuse 22 (lacksEntry a)
+    ∷ refuse 23 (not (allPass (count t) (supportsAt t i (length (a .log))) Q))
     ∷ []
+
+-- commit: 6, 7 and 22 to 24
+abbrev pub commitRefusals : Table → ℕ → ℕ → List Refusal
+commitRefusals t i Q = entryRefusals t i Q ++ (refuse 24 (markedOtherwise t i) ∷ [])
 
 -- the position of i's last entry is marked with i's term
 abbrev pub commitAfter : Table → ℕ → ℕ → Table

@@ -3,7 +3,7 @@ use Prim.Native.Nat.{ℕ}
 use mathlib.Core.List.{List, [], _∷_, _++_}
 use lib.ListN.{length}
 use Rattle.members.specs.Members.{one}
-use Rattle.algorithm.specs.Table.{entries, Table, server, withServer, withLog, freshServer, fresh}
+use Rattle.algorithm.specs.Table.{configOf, entries, Table, server, withServer, withLog, freshServer, fresh}
 use Rattle.algorithm.specs.Comparisons.{newer, ahead}
 use Rattle.words.specs.Words.{half}
 use Rattle.algorithm.specs.Actions.{winner}
@@ -46,7 +46,7 @@ cases =
     (replies (fresh 1 1) (actionBytes 1 1 0 1) gives 0 ∷ [])
     ∷ (replies (fresh 4 15) (actionBytes 1 1 0 3) gives 7 ∷ [])
     ∷ (replies (fresh 4 15) (actionBytes 1 1 0 7) gives 0 ∷ [])
-    ∷ (one (newer (record { set = 1; version = 1; term = 2 }) (record { set = 1; version = 9; term = 1 })) ∷ [] gives 1 ∷ [])
+    ∷ (one (newer (configOf 1 1 2) (configOf 1 9 1)) ∷ [] gives 1 ∷ [])
     ∷ (one (ahead (entries (2 ∷ [])) (entries (1 ∷ 1 ∷ 1 ∷ []))) ∷ [] gives 1 ∷ [])
     ∷ (one (ahead (entries (1 ∷ 1 ∷ [])) (entries (1 ∷ []))) ∷ [] gives 1 ∷ [])
     ∷ (replies (two (1 ∷ []) (2 ∷ 2 ∷ [])) (actionBytes 6 1 2 0) gives 20 ∷ [])

@@ -15,9 +15,17 @@ pub record Config : Type 0 where
   pub version : ℕ
   pub term : ℕ
 
+-- the configuration of these three
+abbrev pub configOf : ℕ → ℕ → ℕ → Config
+configOf M v T = record { set = M; version = v; term = T }
+
 -- an entry of a log
 pub record Entry : Type 0 where
   pub term : ℕ
+
+-- the entry of the term T
+abbrev pub entry : ℕ → Entry
+entry T = record { term = T }
 
 -- a log: its entries in order
 abbrev pub Log : Type 0
@@ -25,7 +33,7 @@ Log = List Entry
 
 -- the log of these terms
 abbrev pub entries : List ℕ → Log
-entries l = map (λ T. record { term = T }) l
+entries l = map entry l
 
 -- a server: its role is 0 for secondary, 1 for primary
 pub record Server : Type 0 where
@@ -45,7 +53,7 @@ count t = length (t .servers)
 
 -- what stands for a server that is not in the table
 abbrev pub absent : Server
-absent = record { role = 0; term = 0; config = record { set = 0; version = 0; term = 0 }; log = [] }
+absent = record { role = 0; term = 0; config = configOf 0 0 0; log = [] }
 
 -- server i
 abbrev pub server : Table → ℕ → Server
@@ -61,7 +69,7 @@ secondary s = eqb (s .role) 0
 
 -- the entry at a position, and one of term 0 where there is none
 abbrev pub entryAt : Log → ℕ → Entry
-entryAt l p = nth l p (record { term = 0 })
+entryAt l p = nth l p (entry 0)
 
 -- the term at a position, or 0
 abbrev pub termAt : Log → ℕ → ℕ
@@ -73,9 +81,17 @@ mark t p = nth (t .marks) p 0
 
 -- ---- a table with other figures
 
+-- the table with these servers
+abbrev pub withServers : List Server → Table → Table
+withServers ss t = record { servers = ss; marks = t .marks }
+
+-- the table with these marks
+abbrev pub withMarks : List ℕ → Table → Table
+withMarks ms t = record { servers = t .servers; marks = ms }
+
 -- the table with s as server i
 abbrev pub withServer : Table → ℕ → Server → Table
-withServer t i s = record { servers = replace (t .servers) i s; marks = t .marks }
+withServer t i s = withServers (replace (t .servers) i s) t
 
 -- the table with server i changed by f
 abbrev pub changed : Table → ℕ → (Server → Server) → Table
@@ -83,7 +99,7 @@ changed t i f = withServer t i (f (server t i))
 
 -- the table with the mark v at position p
 abbrev pub withMark : Table → ℕ → ℕ → Table
-withMark t p v = record { servers = t .servers; marks = replace (t .marks) p v }
+withMark t p v = withMarks (replace (t .marks) p v) t
 
 -- the server with the role v
 abbrev pub withRole : ℕ → Server → Server
@@ -101,9 +117,9 @@ withConfig C s = record { role = s .role; term = s .term; config = C; log = s .l
 abbrev pub withLog : Log → Server → Server
 withLog l s = record { role = s .role; term = s .term; config = s .config; log = l }
 
--- the server with an entry of the term T behind its log
-abbrev pub withEntry : ℕ → Server → Server
-withEntry T s = withLog (s .log ++ (record { term = T } ∷ [])) s
+-- the server with the entry e behind its log
+abbrev pub withEntry : Entry → Server → Server
+withEntry e s = withLog (s .log ++ (e ∷ [])) s
 
 -- the server without its last entry
 abbrev pub withoutLast : Server → Server
@@ -156,7 +172,7 @@ broken t = not (soundCount (count t) && every (soundServer (count t)) (t .server
 
 -- a server before any action, with the set M
 abbrev pub freshServer : ℕ → Server
-freshServer M = record { role = 0; term = 0; config = record { set = M; version = 1; term = 0 }; log = [] }
+freshServer M = withConfig (configOf M 1 0) absent
 
 -- n such servers, and no marks; where n is not 1 to 16, or M is empty or not within n, this table is broken
 abbrev pub fresh : ℕ → ℕ → Table

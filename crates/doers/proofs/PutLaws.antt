@@ -1,9 +1,9 @@
 -- What a slice holds once a row was read and one or several of its figures were put. Assumes nothing.
 use Prim.Native.Nat.{ℕ, _+_, _≤_}
 use mathlib.Core.Path.{_≡_, _∙_}
-use mathlib.Core.List.{List, [], _∷_, _++_}
+use mathlib.Core.List.{List}
 use lib.ListN.{length}
-use Rattle.algorithm.specs.Table.{Server, absent, server, termAt, withServer, withMark, withRole, withTerm, withConfig, withLog}
+use Rattle.algorithm.specs.Table.{entry, Server, absent, server, termAt, withServer, withMark, withRole, withTerm, withConfig, withEntry}
 use Rattle.algorithm.specs.Actions.{steppedDown, reconfigureAfter, sendAfter, spreadAfter, writeAfter, fetchAfter, commitAfter}
 use Rattle.table.specs.Layout.{tableIn}
 use Rattle.table.specs.Slice.{Holds, Held, Became, Within, seen}
@@ -44,12 +44,12 @@ module _ (b b' : List ℕ) (i : ℕ) (a : Row) (e : a ≡ seen (server (tableIn 
       → Holds b' (reconfigureAfter (tableIn b) i m)
   reconfigure-put m h = rw e at (h .holds)
 
-  pub write-put : Became b b' (withServer (tableIn b) i (withLog (server (tableIn b) i .log ++ (record { term = a .term .0 } ∷ [])) (server (tableIn b) i)))
+  pub write-put : Became b b' (withServer (tableIn b) i (withEntry (entry (a .term .0)) (server (tableIn b) i)))
       → Holds b' (writeAfter (tableIn b) i)
   write-put h = rw e at (h .holds)
 
   pub fetch-put : (j v : ℕ) → v ≡ termAt (server (tableIn b) j .log) (a .length .0 + 1)
-      → Became b b' (withServer (tableIn b) i (withLog (server (tableIn b) i .log ++ (record { term = v } ∷ [])) (server (tableIn b) i)))
+      → Became b b' (withServer (tableIn b) i (withEntry (entry v) (server (tableIn b) i)))
       → Holds b' (fetchAfter (tableIn b) i j)
   fetch-put j v f h = rw (f, e) at (h .holds)
 

@@ -45,13 +45,13 @@ past l h = omega arith
 module _ (n : ℕ) (a : List ℕ) (h : NoneHold (formRefusals n a)) where
   -- the bytes are eight, and their kind is one of the eight
   pub kind-known : (length a ≡ 8) × (1 ≤ kindOf a) × (kindOf a ≤ 8)
-  kind-known = kind-range a (h .0)
+  kind-known = kind-range a (h 2)
 
   pub has-byte : (k : ℕ) → k < 8 → k < length a
   has-byte k l = omega (arith, kind-known .0)
 
   servers : Fails (not (known n (iOf a))) × Fails (usesJ (kindOf a) && not (known n (jOf a)))
-  servers = neither {a = not (known n (iOf a))} (h .1 .1 .0)
+  servers = neither {a = not (known n (iOf a))} (h 4)
 
   pub i-known : Passes (known n (iOf a))
   i-known = refuted (servers .0)

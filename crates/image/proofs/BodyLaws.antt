@@ -10,7 +10,7 @@ use lib.ListN.{length, getD, take, drop, length-drop, length-map}
 use lib.Seq.{take-all, length-take-le}
 use borrow.Author.Tests.{le-leb, ne-eqb}
 use Rattle.words.specs.Lists.{nth, every, between, part}
-use Rattle.algorithm.specs.Table.{entries, withLog, ceiling, soundEntry, soundServer}
+use Rattle.algorithm.specs.Table.{entry, entries, withLog, ceiling, soundEntry, soundServer}
 use Rattle.table.specs.Figures.{figured}
 use Rattle.words.specs.Words.{words, halfAt}
 use Rattle.words.proofs.WordLaws.{length-words}
@@ -62,7 +62,7 @@ figures-read b role term set version config er et es ev ec = λ d.
 entries-sound : (l : List ℕ) → every soundEntry (entries l) ≡ every (between 1 ceiling) l
 unfolding every
 entries-sound [] = refl
-entries-sound (x ∷ l) = ap (λ (r : Bool). soundEntry (record { term = x }) && r) (entries-sound l)
+entries-sound (x ∷ l) = ap (λ (r : Bool). soundEntry (entry x) && r) (entries-sound l)
 
 pub server-tells : (b : List ℕ) (n : ℕ) (f : Figures) (r e : Bool) → Sized b → f ≡ figuresOf (serverIn b)
     → r ≡ soundServer n (figured (f .role) (f .term .0) (f .set) (f .version .0) (f .config .0))

@@ -3,14 +3,14 @@ use Prim.Native.Nat.{ℕ, _≤_, _<_}
 use native.Mathlib.Nat.{le-antisymm}
 use mathlib.Core.Path.{_≡_}
 use mathlib.Core.Bool.{true}
-use mathlib.Core.List.{List, [], append-nil}
+use mathlib.Core.List.{List}
 use lib.ListN.{length, getD}
 use Rattle.algorithm.specs.Table.{Table, count}
 use Rattle.words.specs.Lists.{every}
 use Rattle.algorithm.specs.Actions.{kindOf, iOf, jOf, setOf, usesJ, unknown, kinds, actionOf, commitRefusals}
 use Rattle.algorithm.specs.Refusals.{formRefusals, ownRefusals}
 use Rattle.words.specs.Refusal.{first}
-use Rattle.words.proofs.RefusalLaws.{NoneHold, first-later}
+use Rattle.words.proofs.RefusalLaws.{NoneHold, none-hold}
 use Rattle.table.specs.Layout.{tableIn}
 use Rattle.table.specs.Slice.{Within}
 use Rattle.table.proofs.HeldLaws.{known-within}
@@ -18,26 +18,26 @@ use Rattle.form.proofs.FormLaws.{past, kind-known, has-byte, i-known, j-known}
 
 -- ---- no refusal
 
-none-hold : (n : ℕ) (a : List ℕ) → first (formRefusals n a) ≡ 0 → NoneHold (formRefusals n a)
+clear : (n : ℕ) (a : List ℕ) → first (formRefusals n a) ≡ 0 → NoneHold (formRefusals n a)
 unfolding every
-none-hold n a z = first-later 0 (formRefusals n a) [] tt (rw append-nil z) .0
+clear n a z = none-hold (formRefusals n a) tt z
 
 module _ (n : ℕ) (a : List ℕ) (z : first (formRefusals n a) ≡ 0) where
   pub form-length : length a ≡ 8
-  form-length = kind-known n a (none-hold n a z) .0
+  form-length = kind-known n a (clear n a z) .0
 
   pub form-reads : (k : ℕ) → k < 8 → k < length a
-  form-reads = has-byte n a (none-hold n a z)
+  form-reads = has-byte n a (clear n a z)
 
   pub form-kind : (1 ≤ kindOf a) × (kindOf a ≤ 8)
-  form-kind = let (_, least, most) = kind-known n a (none-hold n a z) in (least, most)
+  form-kind = let (_, least, most) = kind-known n a (clear n a z) in (least, most)
 
 module _ (b a : List ℕ) (z : first (formRefusals (count (tableIn b)) a) ≡ 0) where
   pub form-i : Within b (iOf a)
-  form-i = known-within (i-known (count (tableIn b)) a (none-hold (count (tableIn b)) a z))
+  form-i = known-within (i-known (count (tableIn b)) a (clear (count (tableIn b)) a z))
 
   pub form-j : usesJ (kindOf a) ≡ true → Within b (jOf a)
-  form-j u = known-within (j-known (count (tableIn b)) a (none-hold (count (tableIn b)) a z) u)
+  form-j u = known-within (j-known (count (tableIn b)) a (clear (count (tableIn b)) a z) u)
 
 -- ---- the kind's own judge
 

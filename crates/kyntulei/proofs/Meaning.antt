@@ -1,7 +1,7 @@
 -- What the promises mean of a table: its bytes are answered as the algorithm answers it. Assumes nothing.
 use Prim.Native.Nat.{ℕ, _<_}
 use mathlib.Core.Bool.{Bool, true, false, cond}
-use mathlib.Core.List.{List, []}
+use mathlib.Core.List.{List}
 use mathlib.Core.Path.{_≡_, refl, sym, ap, _∙_}
 use lib.ListN.{take, drop}
 use lib.Seq.{take-at}
@@ -10,7 +10,7 @@ use Rattle.words.proofs.Tests.{refuted, both, fails-false, at-most}
 use Rattle.algorithm.specs.Table.{Table, broken, fresh}
 use Rattle.words.specs.Lists.{every}
 use Rattle.algorithm.specs.Run.{step, runTo}
-use Rattle.words.proofs.RefusalLaws.{first-later}
+use Rattle.words.proofs.RefusalLaws.{none-hold}
 use Rattle.algorithm.proofs.Refused.{refused-stays}
 use Rattle.algorithm.proofs.Kept.{fresh-sound}
 use Rattle.algorithm.proofs.Runs.{replies-count}
@@ -28,9 +28,9 @@ module _ {b b' : List ℕ} {n m : ℕ} (h : FreshAnswer b n m 0 b') where
   pub filled-sound : broken (fresh n m) ≡ false
   unfolding every
   filled-sound =
-      let ((_, (servers, (sets, _))), _) = first-later 0 (freshRefusals b n m) [] tt (sym (h .reply)) in
-      let (some, few) = both (refuted servers) in
-      fails-false (fresh-sound n m (at-most some) (at-most few) (refuted sets))
+      let none = none-hold (freshRefusals b n m) tt (sym (h .reply)) in
+      let (some, few) = both (refuted (none 32)) in
+      fails-false (fresh-sound n m (at-most some) (at-most few) (refuted (none 5)))
 
 -- a step of the bytes of a table that breaks no rule is the step of the table
 module _ (t : Table) (sound : broken t ≡ false) (a : List ℕ) where

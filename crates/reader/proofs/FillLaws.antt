@@ -7,7 +7,7 @@ use mathlib.Core.List.{List, [], _∷_, _++_, append-nil}
 use lib.ListN.{length, getD, set, take, drop, replicate, length-append, length-map, length-replicate}
 use lib.Seq.{take-all, length-take-le, getD-drop, set-at, getD-at, append-snoc}
 use Rattle.words.specs.Lists.{nth, replace}
-use Rattle.algorithm.specs.Table.{Config, Log, entries, Server, Table, absent, server, withServer, changed, withMark, withRole, withTerm, withConfig, withLog, withEntry}
+use Rattle.algorithm.specs.Table.{Config, entry, Log, entries, Server, Table, absent, server, withMarks, withServer, changed, withMark, withRole, withTerm, withConfig, withLog, withEntry}
 use Rattle.words.specs.Words.{words}
 use Rattle.words.proofs.WordLaws.{length-words}
 use Rattle.table.specs.Layout.{padded, tableIn}
@@ -20,7 +20,7 @@ use Rattle.image.specs.Asked.{Names, Named, Sized, figuresOf, withFigures}
 use Rattle.image.specs.declared.bodies.Figures.{Figures}
 use Rattle.image.proofs.BodyLaws.{length-rest, part-body}
 use Rattle.reader.specs.Reader.{serversTo, readTable}
-use Rattle.reader.specs.Filling.{withMarks, unread}
+use Rattle.reader.specs.Filling.{unread}
 
 -- one change after another
 onward : {b b₁ b₂ : List ℕ} {t : Table} (f : Table → Table) → Became b b₁ t → Became b₁ b₂ (f (tableIn b₁)) → Became b b₂ (f t)
@@ -37,10 +37,10 @@ stays {b} h e = record { holds = subst (λ (x : Table). Holds b x) e h; held = h
 pub record Logged (b₀ b : List ℕ) (s : ℕ) (d : List ℕ) (k : ℕ) : Type 0 where
   pub became : Became b₀ b (changed (tableIn b₀) s (withLog (entries (take k (drop 4 (words d))))))
 
-entries-more : (l : List ℕ) (k : ℕ) → k < length l → entries (take k l) ++ (record { term = getD l k 0 } ∷ []) ≡ entries (take (suc k) l)
+entries-more : (l : List ℕ) (k : ℕ) → k < length l → entries (take k l) ++ (entry (getD l k 0) ∷ []) ≡ entries (take (suc k) l)
 entries-more [] k h = absurd (omega arith)
 entries-more (x ∷ l) zero h = refl
-entries-more (x ∷ l) (suc k) h = ap (λ (m : Log). record { term = x } ∷ m) (entries-more l k (omega arith))
+entries-more (x ∷ l) (suc k) h = ap (λ (m : Log). entry x ∷ m) (entries-more l k (omega arith))
 
 module _ (b₀ b d : List ℕ) (s : ℕ) where
   pub log-none : Held b → server (tableIn b) s .log ≡ [] → Logged b b s d 0
@@ -61,16 +61,16 @@ module _ (b₀ b d : List ℕ) (s : ℕ) where
         rw here (omega (arith, many, z .most))
 
     pub log-more : (b' : List ℕ) (v : ℕ) → k < length d / 4 - 4 → v ≡ getD (words d) (4 + k) 0
-        → Became b b' (changed (tableIn b) s (withEntry v)) → Logged b₀ b' s d (k + 1)
+        → Became b b' (changed (tableIn b) s (withEntry (entry v))) → Logged b₀ b' s d (k + 1)
     log-more b' v h e c =
         let l = drop 4 (words d) in
         let read : v ≡ getD l k 0 = e ∙ sym (getD-drop 4 (words d) k 0) in
-        let longer : entries (take k l) ++ (record { term = v } ∷ []) ≡ entries (take (k + 1) l) =
+        let longer : entries (take k l) ++ (entry v ∷ []) ≡ entries (take (k + 1) l) =
         rw (read, add-one) (entries-more l k (omega (arith, length-rest d))) in
         record {
           became =
               subst (λ (m : Log). Became b₀ b' (changed (tableIn b₀) s (withLog m))) longer
-              (again (withLog (entries (take k l))) (withEntry v) w (g .became) c);
+              (again (withLog (entries (take k l))) (withEntry (entry v)) w (g .became) c);
         }
 
     pub log-all : length d / 4 - 4 ≤ k → Became b₀ b (changed (tableIn b₀) s (withLog (serverIn d .log)))

@@ -3,14 +3,14 @@ use Prim.Native.Nat.{ℕ, _+_, _*_, _%_, _≤_, _<_}
 use native.Mathlib.Omega.{arith}
 use mathlib.Core.Path.{_≡_, sym, _∙_}
 use mathlib.Core.Bool.{Bool, true, false, not}
-use mathlib.Core.List.{List, []}
+use mathlib.Core.List.{List}
 use lib.Dec.{leb, eqb, leb→le}
 use lib.ListN.{length, getD}
 use borrow.Author.Tests.{lt-ltb, le-ltb, eq-eqb, ne-eqb, not-false}
 use Rattle.words.proofs.Tests.{Passes, both, refuted, equal, at-most, three}
 use Rattle.words.specs.Lists.{every}
 use Rattle.words.specs.Refusal.{first}
-use Rattle.words.proofs.RefusalLaws.{first-later}
+use Rattle.words.proofs.RefusalLaws.{none-hold}
 use Rattle.table.specs.Layout.{tableBytes, stored}
 use Rattle.table.specs.Slice.{Holds}
 use Rattle.table.proofs.StoredLaws.{held-stored}
@@ -92,9 +92,9 @@ pub record Readable (im slice : List ℕ) : Type 0 where
 pub readable : (im slice : List ℕ) → readReply im slice ≡ 0 → Readable im slice
 unfolding readReply every
 readable im slice e =
-    let ((a, (b, (c, (d, (l, (s, _)))))), _) = first-later 0 (readRefusals im slice) [] tt e in
-    let (some, few) = both (refuted d) in
-    record { sized = equal (refuted a); some = at-most some; few = at-most few; named = named im (refuted l); sound = refuted s }
+    let none = none-hold (readRefusals im slice) tt e in
+    let (some, few) = both (refuted (none 32)) in
+    record { sized = equal (refuted (none 1)); some = at-most some; few = at-most few; named = named im (refuted (none 33)); sound = refuted (none 34) }
 
 module _ (im slice : List ℕ) (k : ℕ) (e : k ≡ readReply im slice) where
   module _ (h : k ≡ 0) where

@@ -8,7 +8,7 @@ use mathlib.Core.List.{List, [], _∷_, _++_}
 use lib.ListN.{length, getD, set, take, length-append, length-take, List·getD-map}
 use lib.Seq.{length-take-le}
 use Rattle.words.specs.Lists.{nth, replace}
-use Rattle.algorithm.specs.Table.{Entry, Log, Server, Table, count, server, termAt, mark, changed, withMark, withRole, withTerm, withConfig, withEntry, withoutLast}
+use Rattle.algorithm.specs.Table.{Entry, entry, Log, Server, Table, count, server, termAt, mark, changed, withMark, withRole, withTerm, withConfig, withEntry, withoutLast}
 use Rattle.algorithm.specs.Comparisons.{last}
 use Rattle.words.proofs.Lists.{length-replace}
 use Rattle.words.specs.Words.{words, Put}
@@ -51,7 +51,7 @@ entry-read s (suc p) r h l e =
     e
     ∙ ap (λ (n : ℕ). getD (row s) n 0) (past-six p)
     ∙ get-padded 64 (terms (s .log)) p (omega arith)
-    ∙ List·getD-map (λ (e : Entry). e .term) (s .log) p (record { term = 0 })
+    ∙ List·getD-map (λ (e : Entry). e .term) (s .log) p (entry 0)
 
 pub mark-read : (b : List ℕ) (p r : ℕ) → Held b → 1 ≤ p → p ≤ 64 → r ≡ getD (words b) (5 + p) 0 → r ≡ mark (tableIn b) p
 unfolding nth
@@ -112,7 +112,7 @@ log-short b i r h e = omega (arith, e, its-room i h .short)
 
 -- ---- an entry more, and one less
 
-push-log : (k : ℕ) (l : Log) (v : ℕ) → length l < k → set (padded k (terms l)) (length l) v ≡ padded k (terms (l ++ (record { term = v } ∷ [])))
+push-log : (k : ℕ) (l : Log) (v : ℕ) → length l < k → set (padded k (terms l)) (length l) v ≡ padded k (terms (l ++ (entry v ∷ [])))
 unfolding padded
 push-log zero l v h = absurd (omega arith)
 push-log (suc k) [] v h = refl
@@ -128,9 +128,9 @@ pop-log (suc k) (x ∷ y ∷ l) zero e h = absurd (omega arith)
 pop-log (suc k) (x ∷ y ∷ l) (suc n) e h = ap (λ (z : List ℕ). x .term ∷ z) (pop-log k (y ∷ l) n (omega arith) (omega arith))
 
 push-row : (s : Server) (n v : ℕ) → n ≡ length (s .log) → n < 64
-    → set (set (row s) 5 (n + 1)) (5 + (n + 1)) v ≡ row (withEntry v s)
+    → set (set (row s) 5 (n + 1)) (5 + (n + 1)) v ≡ row (withEntry (entry v) s)
 push-row s n v e h =
-    rw (e, add-one, past-six (length (s .log)), push-log 64 (s .log) v (omega arith), length-append (s .log) (record { term = v } ∷ []), add-one)
+    rw (e, add-one, past-six (length (s .log)), push-log 64 (s .log) v (omega arith), length-append (s .log) (entry v ∷ []), add-one)
 
 pop-row : (s : Server) (n : ℕ) → n ≡ length (s .log) → 1 ≤ n → n ≤ 64
     → set (set (row s) 5 (n - 1)) (5 + n) 0 ≡ row (withoutLast s)
@@ -155,12 +155,12 @@ module _ {b : List ℕ} {i : ℕ} (h : Held b) (w : Within b i) where
       (then f (then f (then f (open-row h w) (omega arith) p) (omega arith) q) (omega arith) u)
 
   pub push-put : (b₁ b₂ : List ℕ) (n v : ℕ) → n ≡ length (server (tableIn b) i .log) → length (server (tableIn b) i .log) < 64
-      → Put b b₁ (70 * i + 5) (n + 1) → Put b₁ b₂ (70 * i + 5 + (n + 1)) v → Became b b₂ (changed (tableIn b) i (withEntry v))
+      → Put b b₁ (70 * i + 5) (n + 1) → Put b₁ b₂ (70 * i + 5 + (n + 1)) v → Became b b₂ (changed (tableIn b) i (withEntry (entry v)))
   push-put b₁ b₂ n v e l p q =
       let s = server (tableIn b) i in
       let f = frame h w in
       close-row h w _
-      (record { short = omega (arith, length-append (s .log) (record { term = v } ∷ [])); small = its-room i h .small })
+      (record { short = omega (arith, length-append (s .log) (entry v ∷ [])); small = its-room i h .small })
       (rw (push-row s n v e (omega arith)) at (then f (then f (open-row h w) (omega arith) p) (omega arith) (rw (add-assoc (70 * i) 5 (n + 1)) at q)))
 
   pub pop-put : (b₁ b₂ : List ℕ) (n : ℕ) → n ≡ length (server (tableIn b) i .log) → 1 ≤ length (server (tableIn b) i .log)

@@ -2,7 +2,7 @@
 ghost use mathlib.Core.Path.{_≡_};
 ghost use Prim.Native.Nat.{_≤_, _<_};
 ghost use lib.ListN.{length, getD};
-ghost use Rattle.algorithm.specs.Table.{count, server, termAt, mark, changed, withMark, withRole, withTerm, withConfig, withEntry, withoutLast, positions};
+ghost use Rattle.algorithm.specs.Table.{entry, count, server, termAt, mark, changed, withMark, withRole, withTerm, withConfig, withEntry, withoutLast, positions};
 ghost use Rattle.algorithm.specs.Comparisons.{last};
 ghost use Rattle.table.specs.Layout.{rowWords, row, tableIn};
 ghost use Rattle.table.specs.Slice.{Held, Became, Within, seen};
@@ -188,7 +188,7 @@ pub fn push(t: &mut [u8], s: usize, v: Term)
     requires { ⌜ Held (now t) ⌝ }
     requires { ⌜ Within (now t) s ⌝ }
     requires { ⌜ length (server (tableIn (now t)) s .log) < positions ⌝ }
-    ensures { λ _. ⌜ Became (now (t .entry)) (now (t .exit)) (changed (tableIn (now (t .entry))) s (withEntry (v .0))) ⌝ }
+    ensures { λ _. ⌜ Became (now (t .entry)) (now (t .exit)) (changed (tableIn (now (t .entry))) s (withEntry (entry (v .0)))) ⌝ }
 {
     let n = length_of(t, s).0 as u32 + 1;
     let at = ROW * s + LENGTH;

@@ -1,51 +1,58 @@
 -- What a list of refusals says by the first that holds, and how a judge's tests give that one. Assumes nothing.
 use Prim.Native.Nat.{ℕ}
 use mathlib.Core.Bool.{Bool, true, false, cond, not, _||_, _&&_}
-use mathlib.Core.List.{List, [], _∷_, _++_}
+use mathlib.Core.List.{List, [], _∷_, _++_, append-nil}
 use mathlib.Core.Path.{_≡_, refl, sym, ap, ap₂, _∙_}
-use native.Mathlib.Omega.{arith}
-use lib.Dec.{T, ltb, eqb, ltb→lt, eqb→eq}
+use lib.Dec.{T, ltb, eqb}
 use borrow.Author.Needs.{needs}
-use mir.Facts.{and-yes, yes-and, not-T, eqb-no}
+use mir.Facts.{and-yes, eqb-no}
 use Rattle.words.specs.Lists.{every}
-use Rattle.words.specs.Refusal.{Refusal, refuse, first}
-use Rattle.words.proofs.Tests.{Fails, and-told}
+use Rattle.words.specs.Refusal.{Refusal, refuse, first, holdsIn}
+use Rattle.words.proofs.Tests.{Fails, false-fails, and-told}
+use Rattle.words.proofs.Choice.{cond-elim}
 
--- ---- a list of refusals
+-- ---- a list of refusals, read by their numbers
 
--- none of them holds
+-- none of them holds, whatever its number
 abbrev pub NoneHold : List Refusal → Type 0
-NoneHold [] = Unit {0}
-NoneHold (r ∷ rs) = Fails (r .holds) × NoneHold rs
+NoneHold rs = (k : ℕ) → Fails (holdsIn k rs)
+
+-- none of them has the number k
+abbrev pub lacks : ℕ → List Refusal → Bool
+lacks k rs = every (λ r. not (eqb (r .number) k)) rs
+
+one-more : (r : Refusal) (rs : List Refusal) → Fails (r .holds) → NoneHold rs → NoneHold (r ∷ rs)
+one-more r rs h f k = cond-elim Fails (eqb (r .number) k) (λ _. h) (λ _. f k)
 
 -- if k is given, and no refusal of the first list has that number, none of them holds
-pub first-later : (k : ℕ) (rs later : List Refusal) → T (every (λ r. not (eqb (r .number) k)) rs) → first (rs ++ later) ≡ k
-    → NoneHold rs × (first later ≡ k)
+pub first-later : (k : ℕ) (rs later : List Refusal) → T (lacks k rs) → first (rs ++ later) ≡ k → NoneHold rs × (first later ≡ k)
 unfolding first every
-first-later k [] later p e = (tt, e)
+first-later k [] later p e = (λ _. record { no = tt }, e)
 first-later k (r ∷ rs) later p e =
-    let (here, others) = and-yes (not (eqb (r .number) k)) (every (λ r. not (eqb (r .number) k)) rs) p in
-    go (r .holds) here (first-later k rs later others) e
+    let (here, others) = and-yes (not (eqb (r .number) k)) (lacks k rs) p in
+    go (r .holds) refl here (first-later k rs later others) e
   where
-    go : (b : Bool) → T (not (eqb (r .number) k)) → (first (rs ++ later) ≡ k → NoneHold rs × (first later ≡ k))
-        → cond b (r .number) (first (rs ++ later)) ≡ k → (Fails b × NoneHold rs) × (first later ≡ k)
-    go true here rest z = absurd (eqb-no here z)
-    go false here rest z = let (n, f) = rest z in ((record { no = tt }, n), f)
+    go : (b : Bool) → r .holds ≡ b → T (not (eqb (r .number) k)) → (first (rs ++ later) ≡ k → NoneHold rs × (first later ≡ k))
+        → cond b (r .number) (first (rs ++ later)) ≡ k → NoneHold (r ∷ rs) × (first later ≡ k)
+    go true f here rest z = absurd (eqb-no here z)
+    go false f here rest z = let (n, l) = rest z in (one-more r rs (false-fails f) n, l)
 
--- each number is larger than the one before it, the first one larger than k
-unfoldable pub ascending : ℕ → List Refusal → Bool
-ascending k [] = true
-ascending k (r ∷ rs) = ltb k (r .number) && ascending (r .number) rs
+-- where 0 is given, and is no refusal's number, none holds
+pub none-hold : (rs : List Refusal) → T (lacks 0 rs) → first rs ≡ 0 → NoneHold rs
+none-hold rs p e = first-later 0 rs [] p (rw append-nil e) .0
 
--- no refusal has the number 0
-pub numbered : (k : ℕ) (rs : List Refusal) → T (ascending k rs) → T (every (λ r. not (eqb (r .number) 0)) rs)
-unfolding ascending every
-numbered k [] h = tt
-numbered k (r ∷ rs) h =
-    let (here, rest) = and-yes (ltb k (r .number)) (ascending (r .number) rs) h in
-    yes-and (not (eqb (r .number) 0)) (every (λ r. not (eqb (r .number) 0)) rs)
-    (not-T (eqb (r .number) 0) (λ z. omega (arith, ltb→lt k (r .number) here, eqb→eq (r .number) 0 z)))
-    (numbered (r .number) rs rest)
+fails-before : (k : ℕ) (xs ys : List Refusal) → Fails (holdsIn k (xs ++ ys)) → Fails (holdsIn k xs)
+fails-before k [] ys h = record { no = tt }
+fails-before k (r ∷ xs) ys h = go (eqb (r .number) k) (fails-before k xs ys) h
+  where
+    go : (b : Bool) → (Fails (holdsIn k (xs ++ ys)) → Fails (holdsIn k xs)) → Fails (cond b (r .holds) (holdsIn k (xs ++ ys)))
+        → Fails (cond b (r .holds) (holdsIn k xs))
+    go true rest h = h
+    go false rest h = rest h
+
+-- where none of two lists holds, none of the first does
+pub none-before : (xs ys : List Refusal) → NoneHold (xs ++ ys) → NoneHold xs
+none-before xs ys none k = fails-before k xs ys (none k)
 
 -- ---- the first refusal of two lists
 
@@ -59,17 +66,24 @@ first-held (r ∷ xs) ys h = go (r .holds) h (first-held xs ys)
     go true h rest = refl
     go false h rest = rest h
 
-pub first-none : (xs ys : List Refusal) → T (every (λ r. not (eqb (r .number) 0)) xs) → first xs ≡ 0 → first (xs ++ ys) ≡ first ys
+pub first-none : (xs ys : List Refusal) → T (lacks 0 xs) → first xs ≡ 0 → first (xs ++ ys) ≡ first ys
 unfolding first every
 first-none [] ys p e = refl
 first-none (r ∷ xs) ys p e =
-    let (here, later) = and-yes (not (eqb (r .number) 0)) (every (λ r. not (eqb (r .number) 0)) xs) p in
+    let (here, later) = and-yes (not (eqb (r .number) 0)) (lacks 0 xs) p in
     go (r .holds) here e (first-none xs ys later)
   where
     go : (b : Bool) → T (not (eqb (r .number) 0)) → cond b (r .number) (first xs) ≡ 0 → (first xs ≡ 0 → first (xs ++ ys) ≡ first ys)
         → cond b (r .number) (first (xs ++ ys)) ≡ first ys
     go true here e rest = absurd (eqb-no here e)
     go false here e rest = rest e
+
+-- ---- their order
+
+-- each number is larger than the one before it, the first one larger than k
+unfoldable pub ascending : ℕ → List Refusal → Bool
+ascending k [] = true
+ascending k (r ∷ rs) = ltb k (r .number) && ascending (r .number) rs
 
 -- ---- a judge's tests
 

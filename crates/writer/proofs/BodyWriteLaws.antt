@@ -7,7 +7,7 @@ use mathlib.Core.Path.{_≡_, refl, ap, sym, _∙_}
 use mathlib.Core.List.{List, [], _∷_, _++_}
 use lib.ListN.{length, getD, take, length-map, List·getD-map}
 use lib.Seq.{take-suc, take-all}
-use Rattle.algorithm.specs.Table.{Entry, Server, Table, absent, server, termAt, mark, trimmed}
+use Rattle.algorithm.specs.Table.{Entry, entry, Server, Table, absent, server, termAt, mark, trimmed}
 use Rattle.words.specs.Lists.{nth}
 use Rattle.words.specs.Words.{half, bytes}
 use Rattle.words.proofs.WordLaws.{length-bytes}
@@ -83,7 +83,7 @@ module _ (b b₁ : List ℕ) (at k n e : ℕ) where
     log-more b₂ d v l m w x =
         let many = length-map (s .log) (λ (e : Entry). e .term) in
         number-more b at (terms (s .log)) b₁ b₂ k d e v (omega (arith, many))
-        (rw add-one at m ∙ sym (List·getD-map (λ (e : Entry). e .term) (s .log) k (record { term = 0 }))) w x
+        (rw add-one at m ∙ sym (List·getD-map (λ (e : Entry). e .term) (s .log) k (entry 0))) w x
 
     pub log-all : n ≤ k → Numbered b at (terms (s .log)) b₁ k e → Wrote b b₁ at (bytes (terms (s .log))) e
     log-all m w =

@@ -12,7 +12,7 @@ use lib.Seq.{take-all, take-add, getD-drop, getD-at, length-take-le}
 use Rattle.words.proofs.Tests.{Passes, both, refuted, equal, three}
 use Rattle.algorithm.specs.Table.{absent}
 use Rattle.words.specs.Lists.{every}
-use Rattle.words.proofs.RefusalLaws.{first-later}
+use Rattle.words.proofs.RefusalLaws.{none-hold}
 use Rattle.words.specs.Words.{half}
 use Rattle.image.specs.Contents.{firstBody, opened, countIn, offset, size, stop, start, fixed, mayHave, laid, laidOut}
 use Rattle.words.proofs.BelowLaws.{all-below}
@@ -71,8 +71,8 @@ module _ (im slice : List ℕ) (e : readReply im slice ≡ 0) (byte : Bytes im) 
   found : Passes (opened im) × Passes (laidOut im)
   unfolding readReply every
   found =
-      let ((_, (_, (o, (_, (l, _))))), _) = first-later 0 (readRefusals im slice) [] tt e in
-      (refuted {b = opened im} o, refuted {b = laidOut im} l)
+      let none = none-hold (readRefusals im slice) tt e in
+      (refuted {b = opened im} (none 31), refuted {b = laidOut im} (none 33))
 
   -- entry k is as it has to be
   entry : (k : ℕ) → k ≤ n → (offset im k ≡ start im k) × (size im k % 4 ≡ 0)

@@ -3,13 +3,13 @@ use Prim.Native.Nat.{ℕ, _≤_, _<_}
 use native.Mathlib.Omega.{arith}
 use mathlib.Core.Path.{_≡_, refl, ap, sym, _∙_}
 use mathlib.Core.Bool.{true}
-use mathlib.Core.List.{List, [], _++_}
+use mathlib.Core.List.{List, _++_}
 use lib.ListN.{length, getD, take, drop, length-append, take-append-drop}
 use lib.Seq.{take-at, length-take-le}
 use borrow.Author.Tests.{eq-eqb}
 use Rattle.words.proofs.Tests.{refuted, is-true}
 use Rattle.words.specs.Lists.{every}
-use Rattle.words.proofs.RefusalLaws.{first-later}
+use Rattle.words.proofs.RefusalLaws.{none-hold}
 use Rattle.table.specs.Layout.{tableBytes, tableIn, whole}
 use Rattle.table.proofs.StoredLaws.{stored-table}
 use Rattle.whole.proofs.Determined.{whole-stored, whole-sound}
@@ -31,8 +31,8 @@ unique h k = (h .reply ∙ sym (k .reply), h .bytes ∙ sym (k .bytes), h .end �
 was-whole : (slice buffer : List ℕ) → writeReply slice buffer ≡ 0 → whole slice ≡ true
 unfolding writeReply every
 was-whole slice buffer e =
-    let ((w, _), _) = first-later 0 (writerRefusals slice buffer) [] tt e in
-    is-true (whole slice) (refuted {b = whole slice} w .yes)
+    let none = none-hold (writerRefusals slice buffer) tt e in
+    is-true (whole slice) (refuted {b = whole slice} (none 1) .yes)
 
 -- Where the image is written it lies within the buffer, and what is lent up to its end is as long as the end says.
 module _ (b buffer : List ℕ) (e k : ℕ) (buffer' : List ℕ) (e' : ℕ) (w : WriteAnswer b buffer e k buffer' e') (written : k ≡ 0) where
