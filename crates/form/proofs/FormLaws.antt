@@ -1,20 +1,25 @@
 -- What the bytes of an action tell of its form. Assumes nothing.
-use Prim.Native.Nat.{ℕ, suc, _≤_}
+use Prim.Native.Nat.{ℕ, zero, suc, _≤_}
 use native.Mathlib.Decide.{decLe}
 use native.Mathlib.Omega.{arith}
-use mathlib.Core.Path.{_≡_, refl, sym, _∙_}
-use mathlib.Core.Bool.{Bool, true, false, not, _&&_}
+use mathlib.Core.Path.{_≡_, refl, sym, ap, _∙_}
+use mathlib.Core.Bool.{Bool, true, false, cond, not, _&&_}
 use mathlib.Core.List.{List}
 use lib.Dec.{eqb, leb}
 use lib.ListN.{length, getD, List·getD-eq-default}
-use borrow.Author.Tests.{eq-eqb, ne-eqb}
+use borrow.Author.Tests.{eq-eqb, ne-eqb, eqb-true}
+use mir.Facts.{eqb-no}
+use Rattle.words.specs.Lists.{every, allBelow}
 use Rattle.words.specs.Refusal.{first}
-use Rattle.words.proofs.Tests.{both-refuted, false-fails, equal}
-use Rattle.algorithm.specs.Actions.{kindOf, iOf, jOf, setOf, unknown, kinds, actionOf}
-use Rattle.algorithm.specs.Refusals.{strayZero, noAction, fieldRefusals}
+use Rattle.words.proofs.Tests.{Passes, both, both-refuted, false-fails, equal, at-most}
+use Rattle.words.proofs.BelowLaws.{all-below}
+use Rattle.words.proofs.RefusalLaws.{none-hold}
+use Rattle.algorithm.specs.Actions.{kindOf, iOf, jOf, setOf, Action, unknown, elect, reconfigure, send, spread, write, fetch, rollBack, commit, kinds, actionOf}
+use Rattle.algorithm.specs.Refusals.{strayZero, noAction, fieldRefusals, formRefusals}
+use Rattle.form.specs.declared.Asked.{Asked}
 use Rattle.form.specs.declared.Form.{Form}
 use Rattle.form.specs.declared.Form.the-variants.{Asks, Refused}
-use Rattle.form.specs.Form.{asks, formBy, formOf}
+use Rattle.form.specs.Form.{named, asks, formBy, formOf}
 
 -- ---- refusal 2
 
@@ -64,3 +69,52 @@ no-kind k i j m n₁ n₂ n₃ n₄ n₅ n₆ n₇ n₈ = go (decLe 1 k)
     go (yes l) =
         rw (List·getD-eq-default (kinds i j m) unknown (past (past (past (past (past (past (past (past l n₁) n₂) n₃) n₄) n₅) n₆) n₇) n₈))
     go (no l) = let z : k ≡ 0 = omega arith in rw z
+
+-- ---- what a form tells
+
+-- it asks for an action
+abbrev isAsking : Form → Bool
+isAsking (Asks x) = true
+isAsking (Refused k) = false
+
+known-asks : (k i j m : ℕ) → 1 ≤ k → k ≤ 8 → Passes (isAsking (asks (getD (kinds i j m) k unknown)))
+unfolding allBelow
+known-asks zero i j m l h = absurd (omega arith)
+known-asks (suc k) i j m l h =
+    all-below 8 (λ k. isAsking (asks (getD (kinds i j m) (suc k) unknown))) (record { yes = tt }) k (omega arith)
+
+abbrev actionIn : Form → Action
+actionIn (Asks x) = named x
+actionIn (Refused k) = unknown
+
+asked-back : (x : Action) → actionIn (asks x) ≡ x
+asked-back unknown = refl
+asked-back (elect i q) = refl
+asked-back (reconfigure i m) = refl
+asked-back (send i j) = refl
+asked-back (spread i j) = refl
+asked-back (write i) = refl
+asked-back (fetch i j) = refl
+asked-back (rollBack i j) = refl
+asked-back (commit i q) = refl
+
+module _ (n : ℕ) (a : List ℕ) where
+  pub told-asks : (x : Asked) → formOf n a ≡ Asks x → (first (formRefusals n a) ≡ 0) × (actionOf a ≡ named x)
+  told-asks x h = go (eqb (first (formRefusals n a)) 0) refl h
+    where
+      go : (b : Bool) → eqb (first (formRefusals n a)) 0 ≡ b → cond b (asks (actionOf a)) (Refused (first (formRefusals n a))) ≡ Asks x → (first (formRefusals n a) ≡ 0) × (actionOf a ≡ named x)
+      go true e h = (eqb-true _ _ e, sym (asked-back (actionOf a)) ∙ ap actionIn h)
+      go false e h = let z : _≡_ {A = ℕ} 0 1 = cc in absurd (omega arith)
+
+  pub told-refused : (k : ℕ) → formOf n a ≡ Refused k → (first (formRefusals n a) ≡ k) × (k ≡ 0 → ⊥)
+  unfolding every
+  told-refused k h = go (eqb (first (formRefusals n a)) 0) refl h
+    where
+      go : (b : Bool) → eqb (first (formRefusals n a)) 0 ≡ b → cond b (asks (actionOf a)) (Refused (first (formRefusals n a))) ≡ Refused k → (first (formRefusals n a) ≡ k) × (k ≡ 0 → ⊥)
+      go true e h =
+          let kind = both-refuted {a = eqb (length a) 8} {b = leb 1 (kindOf a) && leb (kindOf a) 8} (none-hold (formRefusals n a) tt (eqb-true _ _ e) 2) .1 in
+          let (least, most) = both kind in
+          absurd ((rw h at (known-asks (kindOf a) (iOf a) (jOf a) (setOf a) (at-most least) (at-most most))) .yes)
+      go false e h =
+          let same : first (formRefusals n a) ≡ k = cc in
+          (same, λ z. eqb-no (false-fails e .no) (same ∙ z))
