@@ -22,15 +22,21 @@ strayZero bs = stray (byte bs 3) || stray (byte bs 6) || stray (byte bs 7)
 abbrev pub known : ℕ → ℕ → Bool
 known n i = between 1 n i
 
--- 2 to 5, beside a table of n servers
-abbrev pub formRefusals : ℕ → List ℕ → List Refusal
-formRefusals n bs =
-    let k = kindOf bs in
-    refuse 2 (not (eqb (length bs) 8) || not (between 1 8 k))
-    ∷ refuse 3 (strayZero bs || not (usesJ k) && stray (jOf bs) || not (usesSet k) && stray (setOf bs))
-    ∷ refuse 4 (not (known n (iOf bs)) || usesJ k && not (known n (jOf bs)))
-    ∷ refuse 5 (usesSet k && not (within (setOf bs) n))
+-- 2: the bytes are not eight, or their kind is none of the eight
+abbrev pub noAction : List ℕ → Bool
+noAction bs = not (eqb (length bs) 8) || not (between 1 8 (kindOf bs))
+
+-- 3 to 5 of the kind k, beside a table of n servers; z tells whether a zero byte is not 0
+abbrev pub fieldRefusals : ℕ → Bool → ℕ → ℕ → ℕ → ℕ → List Refusal
+fieldRefusals n z k i j M =
+    refuse 3 (z || not (usesJ k) && stray j || not (usesSet k) && stray M)
+    ∷ refuse 4 (not (known n i) || usesJ k && not (known n j))
+    ∷ refuse 5 (usesSet k && not (within M n))
     ∷ []
+
+-- 2 to 5
+abbrev pub formRefusals : ℕ → List ℕ → List Refusal
+formRefusals n bs = refuse 2 (noAction bs) ∷ fieldRefusals n (strayZero bs) (kindOf bs) (iOf bs) (jOf bs) (setOf bs)
 
 -- 1 to 5
 abbrev pub commonRefusals : Table → List ℕ → List Refusal

@@ -1,10 +1,7 @@
-// The vocabulary of the engine: roles, three counters that cannot stand for one another, the set that an action names, and the reply to it.
+// The vocabulary of the engine: roles, three counters that cannot stand for one another, and the reply to an action.
 ghost use mathlib.Core.Path.{_≡_};
 ghost use lib.Dec.{ltb, eqb};
-ghost use lib.ListN.{length};
-ghost use Rattle.algorithm.specs.Actions.{setOf};
 ghost use Rattle.algorithm.specs.Reply.{numberOf};
-use words::pair;
 
 // The two roles.
 pub const SECONDARY: u32 = 0;
@@ -55,14 +52,6 @@ pub fn position_below(p: Position, q: Position) -> bool
     ensures { λ r. ⌜ r ≡ ltb (p .0) (q .0) ⌝ }
 {
     p.0 < q.0
-}
-
-// The set of an action.
-pub fn set_in(a: &[u8]) -> u16
-    requires { ⌜ length (now a) ≡ 8 ⌝ }
-    ensures { λ r. ⌜ r ≡ setOf (now (a .entry)) ⌝ }
-{
-    pair(a[4], a[5])
 }
 
 // The reply to an action; a refusal carries its number, and nothing else.

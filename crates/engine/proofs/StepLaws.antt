@@ -1,26 +1,33 @@
--- Laws of one step: the form is judged, then the action, then it is done. Assumes nothing.
+-- Laws of one step: an action is read, then judged, then done. Assumes nothing.
 use Prim.Native.Nat.{ℕ, zero, suc}
 use mathlib.Core.Bool.{false}
 use mathlib.Core.Path.{_≡_, refl, ap, sym, _∙_}
 use mathlib.Core.List.{List, _++_}
 use lib.Dec.{eqb}
 use borrow.Author.Tests.{eq-eqb, ne-eqb}
+use Rattle.words.specs.Lists.{every}
+use Rattle.words.specs.Refusal.{first}
 use Rattle.words.proofs.Tests.{fails-false, false-fails}
-use Rattle.words.proofs.RefusalLaws.{first-held, first-none}
+use Rattle.words.proofs.RefusalLaws.{none-hold, first-held, first-none}
 use Rattle.algorithm.specs.declared.Reply.{Reply}
 use Rattle.algorithm.specs.declared.Reply.the-variants.{Taken, Refused}
 use Rattle.algorithm.specs.Reply.{numberOf, replyOf}
-use Rattle.words.specs.Lists.{every}
 use Rattle.algorithm.specs.Table.{count}
-use Rattle.words.specs.Refusal.{first}
-use Rattle.algorithm.specs.Actions.{actionOf}
-use Rattle.algorithm.specs.Refusals.{formRefusals, ownRefusals, refusals}
+use Rattle.algorithm.specs.Actions.{Action, actionOf}
+use Rattle.algorithm.specs.Refusals.{formRefusals, commonRefusals, ownRefusals, refusals}
 use Rattle.algorithm.specs.Run.{after, step}
+use Rattle.algorithm.proofs.Refused.{common-fit}
 use Rattle.algorithm.proofs.Kept.{step-sound}
 use Rattle.table.specs.Layout.{tableIn}
 use Rattle.table.specs.Slice.{Holds}
 use Rattle.table.proofs.HeldLaws.{its-table, held}
-use Rattle.engine.specs.Engine.{Ready, Stepped}
+use Rattle.form.specs.declared.Asked.{Asked}
+use Rattle.form.specs.declared.Form.{Form}
+use Rattle.form.specs.declared.Form.the-variants as form
+use Rattle.form.specs.Form.{named, formOf}
+use Rattle.form.proofs.FormLaws.{told-refused, told-asks}
+use Rattle.engine.specs.Engine.{Ready, Fitting, Stepped}
+use Rattle.engine.proofs.AskedLaws.{fits}
 
 -- ---- replies
 
@@ -38,18 +45,11 @@ step-number {b} {a} s = ap numberOf (s .reply) ∙ number-reply (step (tableIn b
 
 -- ---- one step
 
-module _ (b a : List ℕ) (h : Ready b) (n f : ℕ) (counts : n ≡ count (tableIn b)) (judged : f ≡ first (formRefusals n a)) where
-  form : f ≡ first (formRefusals (count (tableIn b)) a)
-  form = rw (← counts) judged
-
+module _ (b a : List ℕ) (h : Ready b) where
   -- a table that breaks no rule is judged from 2 on
   whole : first (refusals (tableIn b) a) ≡ first (formRefusals (count (tableIn b)) a ++ ownRefusals (tableIn b) (actionOf a))
   unfolding refusals first
   whole = rw (h .sound)
-
-  formed : f ≡ 0 → first (refusals (tableIn b) a) ≡ first (ownRefusals (tableIn b) (actionOf a))
-  unfolding every
-  formed z = whole ∙ first-none (formRefusals (count (tableIn b)) a) (ownRefusals (tableIn b) (actionOf a)) tt (sym form ∙ z)
 
   refused : (k : ℕ) → first (refusals (tableIn b) a) ≡ k → (k ≡ 0 → ⊥) → Stepped b a (Refused k) b
   unfolding step
@@ -57,27 +57,47 @@ module _ (b a : List ℕ) (h : Ready b) (n f : ℕ) (counts : n ≡ count (table
       let z : eqb (first (refusals (tableIn b) a)) 0 ≡ false = rw e (ne-eqb k 0 n) in
       record { reply = refused-reply k n ∙ ap replyOf (sym e); table = rw z (h .held); ready = h }
 
-  pub form-passed : f ≡ 0 → first (formRefusals (count (tableIn b)) a) ≡ 0
-  form-passed z = sym form ∙ z
+  module _ (n : ℕ) (counts : n ≡ count (tableIn b)) (f : Form) (read : f ≡ formOf n a) where
+    told : (g : Form) → f ≡ g → formOf (count (tableIn b)) a ≡ g
+    told g e = rw (← counts) (sym read ∙ e)
 
-  pub form-refused : (f ≡ 0 → ⊥) → Stepped b a (Refused f) b
-  form-refused n =
-      refused f (whole ∙ first-held (formRefusals (count (tableIn b)) a) (ownRefusals (tableIn b) (actionOf a)) (λ z. n (form ∙ z)) ∙ sym form) n
+    pub form-refused : (k : ℕ) → f ≡ form.Refused k → Stepped b a (Refused k) b
+    form-refused k e =
+        let (is, other) = told-refused (count (tableIn b)) a k (told (form.Refused k) e) in
+        refused k (whole ∙ first-held (formRefusals (count (tableIn b)) a) (ownRefusals (tableIn b) (actionOf a)) (λ z. other (sym is ∙ z)) ∙ is) other
 
-  module _ (fits : f ≡ 0) (k : ℕ) (own : k ≡ first (ownRefusals (tableIn b) (actionOf a))) where
-    pub own-refused : (k ≡ 0 → ⊥) → Stepped b a (Refused k) b
-    own-refused n = refused k (formed fits ∙ sym own) n
+    module _ (x : Asked) (asked : f ≡ form.Asks x) where
+      passed : (first (formRefusals (count (tableIn b)) a) ≡ 0) × (actionOf a ≡ named x)
+      passed = told-asks (count (tableIn b)) a x (told (form.Asks x) asked)
 
-    pub none-refuses : k ≡ 0 → first (refusals (tableIn b) a) ≡ 0
-    none-refuses z = formed fits ∙ sym own ∙ z
+      formed : first (refusals (tableIn b) a) ≡ first (ownRefusals (tableIn b) (named x))
+      unfolding every
+      formed =
+          whole ∙ first-none (formRefusals (count (tableIn b)) a) (ownRefusals (tableIn b) (actionOf a)) tt (passed .0)
+          ∙ ap (λ (y : Action). first (ownRefusals (tableIn b) y)) (passed .1)
 
-    pub taken : (b' : List ℕ) → k ≡ 0 → Holds b' (after (tableIn b) (actionOf a)) → Stepped b a Taken b'
-    unfolding step
-    taken b' z w =
-        let e : first (refusals (tableIn b) a) ≡ 0 = none-refuses z in
-        let done : step (tableIn b) a .table ≡ after (tableIn b) (actionOf a) = rw (eq-eqb (first (refusals (tableIn b) a)) 0 e) in
-        record {
-          reply = ap replyOf (sym e);
-          table = rw done w;
-          ready = record { held = held w; sound = rw (its-table w, ← done) (fails-false (step-sound (tableIn b) a (false-fails (h .sound)))) };
-        }
+      pub fitting : Fitting b x
+      unfolding every first
+      fitting = fits b x (rw (passed .1) at (common-fit (tableIn b) a (none-hold (commonRefusals (tableIn b) a) tt (rw (h .sound) (passed .0))) .1))
+
+      module _ (k : ℕ) (own : k ≡ first (ownRefusals (tableIn b) (named x))) where
+        pub own-refused : (k ≡ 0 → ⊥) → Stepped b a (Refused k) b
+        own-refused n = refused k (formed ∙ sym own) n
+
+        pub none-refuses : k ≡ 0 → first (ownRefusals (tableIn b) (named x)) ≡ 0
+        none-refuses z = sym own ∙ z
+
+        pub taken-reply : k ≡ 0 → Taken ≡ replyOf (step (tableIn b) a .number)
+        unfolding step
+        taken-reply z = ap replyOf (sym (formed ∙ sym own ∙ z))
+
+        pub taken-table : (b' : List ℕ) → k ≡ 0 → Holds b' (after (tableIn b) (named x)) → Holds b' (step (tableIn b) a .table)
+        unfolding step
+        taken-table b' z w = rw (eq-eqb (first (refusals (tableIn b) a)) 0 (formed ∙ sym own ∙ z), passed .1) w
+
+        pub taken-ready : (b' : List ℕ) → k ≡ 0 → Holds b' (after (tableIn b) (named x)) → Ready b'
+        taken-ready b' z w =
+            record {
+              held = held w;
+              sound = rw (its-table (taken-table b' z w)) (fails-false (step-sound (tableIn b) a (false-fails (h .sound))));
+            }

@@ -1,15 +1,29 @@
 -- What the engine asks of a slice, and what a step and a run leave in it. Assumes nothing.
 use Prim.Native.Nat.{ℕ, min}
-use mathlib.Core.Bool.{false}
+use mathlib.Core.Bool.{true, false}
 use mathlib.Core.List.{List, _++_}
 use mathlib.Core.Path.{_≡_}
 use lib.ListN.{length, drop, replicate}
+use Rattle.members.specs.Members.{within}
 use Rattle.algorithm.specs.declared.Reply.{Reply}
 use Rattle.algorithm.specs.Reply.{replyOf}
-use Rattle.algorithm.specs.Table.{broken}
+use Rattle.algorithm.specs.Table.{count, broken}
 use Rattle.algorithm.specs.Run.{step, pieceCount, runTo}
 use Rattle.table.specs.Layout.{tableIn}
-use Rattle.table.specs.Slice.{Holds, Held}
+use Rattle.table.specs.Slice.{Holds, Held, Within}
+use Rattle.form.specs.declared.Asked.{Asked}
+use Rattle.form.specs.declared.Asked.the-variants.{Elect, Reconfigure, Send, Spread, Write, Fetch, RollBack, Commit}
+
+-- the servers that are asked for are servers of the table in the slice, and the set is within them
+abbrev pub Fitting : List ℕ → Asked → Type 0
+Fitting b (Elect i Q) = Within b i × (within Q (count (tableIn b)) ≡ true)
+Fitting b (Reconfigure i M) = Within b i × (within M (count (tableIn b)) ≡ true)
+Fitting b (Send i j) = Within b i × Within b j
+Fitting b (Spread i j) = Within b i × Within b j
+Fitting b (Write i) = Within b i
+Fitting b (Fetch i j) = Within b i × Within b j
+Fitting b (RollBack i j) = Within b i × Within b j
+Fitting b (Commit i Q) = Within b i × (within Q (count (tableIn b)) ≡ true)
 
 -- the slice holds a table, and that breaks no rule
 pub record Ready (b : List ℕ) : Type 0 where

@@ -1,32 +1,38 @@
 // One action on a table that is whole, and a plan of them.
 ghost use Rattle.engine.specs.Engine.{Ready, Stepped, Played, AllRefused};
+use crate::act::act;
+use crate::judges::judge;
 use crate::pieces::lesser;
 use crate::pieces::piece_count;
 use crate::pieces::piece_end;
-use act::act;
 use algorithm::Reply;
 use algorithm::number;
-use form::judge_form;
-use judges::action::judge_action;
+use form::Form;
+use form::read_action;
 use table::rows::count_of;
+
+pub mod act;
+
+pub mod judges;
 
 pub mod pieces;
 
-// An action is judged, and done if nothing speaks against it.
+// An action is read, judged, and done if nothing speaks against it.
 pub fn step(t: &mut [u8], a: &[u8]) -> Reply
     requires { ⌜ Ready (now t) ⌝ }
     ensures { λ r. ⌜ Stepped (now (t .entry)) (now (a .entry)) r (now (t .exit)) ⌝ }
 {
-    let form = judge_form(count_of(t), a);
-    if form != 0 {
-        return Reply::Refused(form);
+    match read_action(count_of(t), a) {
+        Form::Refused(k) => Reply::Refused(k),
+        Form::Asks(x) => {
+            let own = judge(t, x);
+            if own != 0 {
+                return Reply::Refused(own);
+            }
+            act(t, x);
+            Reply::Taken
+        }
     }
-    let own = judge_action(t, a);
-    if own != 0 {
-        return Reply::Refused(own);
-    }
-    act(t, a);
-    Reply::Taken
 }
 
 // The pieces are played in order, as many as the replies have room for, and answered; how many is told.

@@ -1,2 +1,2 @@
--- The laws of an action's form.
+-- What the bytes of an action tell.
 pub mod FormLaws

@@ -1,2 +1,2 @@
--- What is said against the form of an action.
-pub mod Fields
+-- What the bytes of an action ask. The enums `Asked` and `Form` stand in src/lib.rt.
+pub mod Form

@@ -1,0 +1,14 @@
+-- `form::read_action` meets its contract. Assumes nothing.
+use borrow.Author.Needs.{needs}
+use Rattle.form.proofs.FormLaws.{known-length, no-action, an-action}
+use Rattle.form.proofs.read_action.Statement.{statement}
+use Rattle.form.proofs.read_action.Tie as tie
+
+pub read-action-spec : {M : Type 1} → statement M
+read-action-spec =
+    tie.close
+    (tie.spec
+    (λ c κs. search needs)
+    (λ c. search (needs, no-action))
+    (λ c κs. search (needs, known-length))
+    (λ c. search (needs, an-action)))

@@ -1,2 +1,0 @@
--- The laws of the judge of an action.
-pub mod ActionLaws
