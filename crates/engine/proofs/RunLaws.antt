@@ -14,6 +14,8 @@ use Rattle.algorithm.proofs.Runs.{run-next, replies-count}
 use Rattle.table.specs.Layout.{tableIn}
 use Rattle.table.specs.Slice.{Holds}
 use Rattle.table.proofs.HeldLaws.{its-table}
+use Rattle.walk.specs.Plan.{behind}
+use Rattle.walk.proofs.Laws.{behind-is}
 use Rattle.engine.specs.Engine.{Ready, Stepped, played, Played, AllRefused}
 use Rattle.engine.proofs.StepLaws.{step-number}
 
@@ -45,22 +47,33 @@ piece p at end h e = go (decLe (at + 8) (length p))
         take-all (end - at) (drop at p) (omega (arith, length-drop at p))
         ∙ sym (take-all 8 (drop at p) (omega (arith, length-drop at p)))
 
+-- the walk moves from one piece to the next within the plan
+module _ (b₀ p b : List ℕ) (at k end : ℕ) (h : Ran b₀ p b at k) (e : end ≡ behind p at) where
+  moved : end ≡ min (at + 8) (length p)
+  moved = e ∙ behind-is p at (omega (arith, h .place))
+
+  pub piece-starts : at ≤ end
+  piece-starts = omega (arith, moved, h .place)
+
+  pub piece-ends : end ≤ length p
+  piece-ends = omega (arith, moved)
+
 -- a reply more
 reply-more : (l r : List ℕ) (k x : ℕ) → length l ≡ k → k < length r → set (l ++ drop k r) k x ≡ (l ++ (x ∷ [])) ++ drop (k + 1) r
 reply-more l r k x e h = rw (drop-cons r k 0 h, set-at l (getD r k 0) (drop (suc k) r) x k e, append-assoc, add-one)
 
 module _ (b₀ p r₀ b : List ℕ) (at k end n : ℕ) (y : Reply) (a b' : List ℕ) (h : Ran b₀ p b at k) (few : n ≡ played p r₀) (l : k < n)
-    (e : end ≡ min (at + 8) (length p)) (is : a ≡ take (end - at) (drop at p)) (s : Stepped b a y b') where
+    (e : end ≡ behind p at) (is : a ≡ take (end - at) (drop at p)) (s : Stepped b a y b') where
   same : tableIn b ≡ runTo k (tableIn b₀) p .table
   same = its-table (h .table)
 
   mine : a ≡ take 8 (drop (8 * k) p)
   mine =
       let here : at ≡ 8 * k = omega (arith, h .place) in
-      is ∙ piece p at end (omega arith) e ∙ ap (λ (n : ℕ). take 8 (drop n p)) here
+      is ∙ piece p at end (omega (arith, h .place)) (moved b₀ p b at k end h e) ∙ ap (λ (n : ℕ). take 8 (drop n p)) here
 
   pub ran-more : Ran b₀ p b' end (k + 1)
-  ran-more = record { table = rw (run-next k (tableIn b₀) p, ← same, ← mine) (s .table); ready = s .ready; place = omega (arith, h .place) }
+  ran-more = record { table = rw (run-next k (tableIn b₀) p, ← same, ← mine) (s .table); ready = s .ready; place = omega (arith, h .place, moved b₀ p b at k end h e) }
 
   pub replied-more : (r r' : List ℕ) (x : ℕ) → Replied b₀ p r₀ r k → x ≡ numberOf y → r' ≡ set r k x → Replied b₀ p r₀ r' (k + 1)
   replied-more r r' x q is-number w =

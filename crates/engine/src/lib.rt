@@ -4,12 +4,12 @@ use crate::act::act;
 use crate::judges::judge;
 use crate::pieces::lesser;
 use crate::pieces::piece_count;
-use crate::pieces::piece_end;
 use algorithm::Reply;
 use algorithm::number;
 use form::Form;
 use form::read_action;
 use table::rows::count_of;
+use walk::next_place;
 
 pub mod act;
 
@@ -44,7 +44,7 @@ pub fn run(t: &mut [u8], actions: &[u8], replies: &mut [u8]) -> usize
     let mut at: usize = 0;
     let mut k: usize = 0;
     while k < n {
-        let end = piece_end(actions, at);
+        let end = next_place(actions, at);
         replies[k] = number(step(t, &actions[at..end]));
         at = end;
         k += 1;

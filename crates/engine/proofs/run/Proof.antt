@@ -5,7 +5,7 @@ use native.Mathlib.Omega.{arith}
 use lib.ListN.{length}
 use borrow.Author.Needs.{needs}
 use Rattle.engine.specs.Engine.{played}
-use Rattle.engine.proofs.RunLaws.{Ran, ran-none, ran-more, Replied, replied-none, replied-more, ran-all}
+use Rattle.engine.proofs.RunLaws.{Ran, ran-none, piece-starts, piece-ends, ran-more, Replied, replied-none, replied-more, ran-all}
 use Rattle.engine.proofs.run.Statement.{statement}
 use Rattle.engine.proofs.run.Tie as tie
 
@@ -26,9 +26,9 @@ run-spec =
     (λ c κs. search needs)
     (λ c. (search needs, search needs, search needs, search needs, search (needs, ran-none), search (needs, replied-none)))
     (λ c κs. search needs)
-    (λ c. search needs)
-    (λ c. search needs)
-    (λ c. search needs)
+    (λ c. search (needs, piece-starts))
+    (λ c. search (needs, piece-starts))
+    (λ c. search (needs, piece-ends))
     (λ c κs. search needs)
     (λ c κs. search needs)
     (λ c. search needs)
