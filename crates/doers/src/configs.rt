@@ -92,7 +92,13 @@ pub fn send(t: &mut [u8], i: usize, j: usize)
     ensures { λ _. ⌜ Holds (now (t .exit)) (sendAfter (tableIn (now (t .entry))) i j) ⌝ }
 {
     let a = row_of(t, i);
-    put_config(t, j, a.figures.set as u16, a.figures.version, a.figures.config);
+    put_config(
+        t,
+        j,
+        a.figures.set as u16,
+        a.figures.version,
+        a.figures.config,
+    );
 }
 
 pub fn spread(t: &mut [u8], i: usize, j: usize)

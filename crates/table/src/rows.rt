@@ -6,10 +6,10 @@ ghost use Rattle.algorithm.specs.Table.{count, server, termAt, mark, changed, w
 ghost use Rattle.algorithm.specs.Comparisons.{last};
 ghost use Rattle.table.specs.Layout.{rowWords, row, tableIn};
 ghost use Rattle.table.specs.Slice.{Held, Became, Within, seen};
+use crate::figures::Figures;
 use algorithm::Position;
 use algorithm::Term;
 use algorithm::Version;
-use crate::figures::Figures;
 use words::put;
 use words::word;
 
