@@ -91,14 +91,8 @@ pub fn send(t: &mut [u8], i: usize, j: usize)
     requires { ⌜ Within (now t) j ⌝ }
     ensures { λ _. ⌜ Holds (now (t .exit)) (sendAfter (tableIn (now (t .entry))) i j) ⌝ }
 {
-    let a = row_of(t, i);
-    put_config(
-        t,
-        j,
-        a.figures.set as u16,
-        a.figures.version,
-        a.figures.config,
-    );
+    let f = row_of(t, i).figures;
+    put_config(t, j, f.set as u16, f.version, f.config);
 }
 
 pub fn spread(t: &mut [u8], i: usize, j: usize)

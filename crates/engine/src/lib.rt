@@ -12,9 +12,7 @@ use table::rows::count_of;
 use walk::next_place;
 
 pub mod act;
-
 pub mod judges;
-
 pub mod pieces;
 
 // An action is read, judged, and done if nothing speaks against it.

@@ -2,13 +2,14 @@
 use Prim.Native.Nat.{ℕ, zero, suc, _+_, _*_, _/_, _%_, _≤_, _<_}
 use native.Mathlib.Nat.{add-assoc}
 use native.Mathlib.Omega.{arith}
-use mathlib.Core.Path.{_≡_, refl, sym, _∙_}
-use mathlib.Core.List.{List, [], _∷_, _++_, append-assoc, flatten}
-use lib.ListN.{length, getD, take, drop, length-append}
+use mathlib.Core.Path.{_≡_, refl, ap, sym, _∙_}
+use mathlib.Core.List.{List, [], _∷_, _++_, append-assoc, append-nil, flatten}
+use lib.ListN.{length, getD, take, drop, length-append, length-map}
 use lib.Seq.{getD-append-add, take-append-seam, drop-at}
 use Rattle.words.specs.Words.{half, halfAt}
+use Rattle.algorithm.specs.Table.{Table, absent, count}
 use Rattle.image.specs.Contents.{firstBody, offset, size, stop}
-use Rattle.image.specs.Image.{opening, contents}
+use Rattle.image.specs.Image.{opening, serverBody, bodies, contents, image}
 use Rattle.image.specs.Bodies.{body}
 
 -- a number of two bytes is read back
@@ -19,11 +20,7 @@ half-back v h = omega arith
 half-past : (xs ys : List ℕ) (m k : ℕ) → length xs ≡ m → halfAt (xs ++ ys) (m + k) ≡ halfAt ys k
 half-past xs ys m k e = rw (← e, add-assoc (length xs) k 1, getD-append-add xs ys k 0, getD-append-add xs ys (k + 1) 0)
 
--- where body e begins, of bodies that follow one another from an offset on
-unfoldable pub place : ℕ → List (List ℕ) → ℕ → ℕ
-place at bs zero = at
-place at [] (suc e) = at
-place at (b ∷ bs) (suc e) = place (at + length b) bs e
+-- ---- some bodies, from an offset on
 
 -- what an entry says
 record Says (c : List ℕ) (e at v : ℕ) : Type 0 where
@@ -32,86 +29,104 @@ record Says (c : List ℕ) (e at v : ℕ) : Type 0 where
 
 module _ (d : List ℕ) where
   contents-say : (at : ℕ) (bs : List (List ℕ)) (e : ℕ) (r : List ℕ) → e < length bs → at + length (flatten bs) < 65536
-      → Says (contents at bs ++ r) e (place at bs e) (length (getD bs e d))
-  unfolding contents place flatten
+      → Says (contents at bs ++ r) e (at + length (flatten (take e bs))) (length (getD bs e d))
+  unfolding contents flatten
   contents-say at [] e r h l = absurd (omega arith)
   contents-say at (b ∷ bs) zero r h l =
-      record { offset = half-back at (omega arith); size = half-back (length b) (omega (arith, length-append b (flatten bs))) }
+      record {
+        offset = half-back at (omega arith) ∙ omega arith;
+        size = half-back (length b) (omega (arith, length-append b (flatten bs)));
+      }
   contents-say at (b ∷ bs) (suc e) r h l =
       let rest = contents (at + length b) bs ++ r in
       let entry = half at ++ half (length b) in
       let on : 4 * suc e ≡ 4 + 4 * e = omega arith in
       let on2 : 4 * suc e + 2 ≡ 4 + (4 * e + 2) = omega arith in
       let next = contents-say (at + length b) bs e r (omega arith) (omega (arith, length-append b (flatten bs))) in
+      let behind = length-append b (flatten (take e bs)) in
       record {
-        offset = rw on (half-past entry rest 4 (4 * e) refl ∙ next .offset);
+        offset = rw on (half-past entry rest 4 (4 * e) refl ∙ next .offset ∙ omega (arith, behind));
         size = rw on2 (half-past entry rest 4 (4 * e + 2) refl ∙ next .size);
       }
 
-  place-next : (at : ℕ) (bs : List (List ℕ)) (e : ℕ) → e < length bs → place at bs (suc e) ≡ place at bs e + length (getD bs e d)
-  unfolding place
-  place-next at [] e h = absurd (omega arith)
-  place-next at (b ∷ bs) zero h = refl
-  place-next at (b ∷ bs) (suc e) h = place-next (at + length b) bs e (omega arith)
+  -- one body more
+  pub flatten-more : (bs : List (List ℕ)) (e : ℕ) → e < length bs → flatten (take (suc e) bs) ≡ flatten (take e bs) ++ getD bs e d
+  unfolding flatten
+  flatten-more [] e h = absurd (omega arith)
+  flatten-more (b ∷ bs) zero h = append-nil b
+  flatten-more (b ∷ bs) (suc e) h =
+      ap (λ (l : List ℕ). b ++ l) (flatten-more bs e (omega arith)) ∙ sym (append-assoc b (flatten (take e bs)) (getD bs e d))
+
+  pub flatten-most : (bs : List (List ℕ)) (e : ℕ) → e < length bs → length (flatten (take e bs)) + length (getD bs e d) ≤ length (flatten bs)
+  unfolding flatten
+  flatten-most [] e h = absurd (omega arith)
+  flatten-most (b ∷ bs) zero h = omega (arith, length-append b (flatten bs))
+  flatten-most (b ∷ bs) (suc e) h =
+      omega (arith, length-append b (flatten (take e bs)), length-append b (flatten bs), flatten-most bs e (omega arith))
 
   -- body e stands at its place
-  body-there : (at : ℕ) (pre : List ℕ) (bs : List (List ℕ)) (e : ℕ) (r : List ℕ) → length pre ≡ at → e < length bs
-      → take (length (getD bs e d)) (drop (place at bs e) (pre ++ (flatten bs ++ r))) ≡ getD bs e d
-  unfolding place flatten
+  body-there : (at : ℕ) (pre : List ℕ) (bs : List (List ℕ)) (e : ℕ) (r : List ℕ) → length pre + length (flatten (take e bs)) ≡ at → e < length bs
+      → take (length (getD bs e d)) (drop at (pre ++ (flatten bs ++ r))) ≡ getD bs e d
+  unfolding flatten
   body-there at pre [] e r p h = absurd (omega arith)
   body-there at pre (b ∷ bs) zero r p h =
-      rw (drop-at pre ((b ++ flatten bs) ++ r) at p, append-assoc b (flatten bs) r) (take-append-seam b (flatten bs ++ r))
+      rw (drop-at pre ((b ++ flatten bs) ++ r) at (omega arith), append-assoc b (flatten bs) r) (take-append-seam b (flatten bs ++ r))
   body-there at pre (b ∷ bs) (suc e) r p h =
       rw (append-assoc b (flatten bs) r, ← append-assoc pre b (flatten bs ++ r))
-      (body-there (at + length b) (pre ++ b) bs e r (omega (arith, length-append pre b)) (omega arith))
-
-pub place-last : (at : ℕ) (bs : List (List ℕ)) → place at bs (length bs) ≡ at + length (flatten bs)
-unfolding place flatten
-place-last at [] = omega arith
-place-last at (b ∷ bs) = place-last (at + length b) bs ∙ omega (arith, length-append b (flatten bs))
-
-pub place-most : (at : ℕ) (bs : List (List ℕ)) (e : ℕ) → place at bs e ≤ at + length (flatten bs)
-unfolding place flatten
-place-most at bs zero = omega arith
-place-most at [] (suc e) = omega arith
-place-most at (b ∷ bs) (suc e) = omega (arith, place-most (at + length b) bs e, length-append b (flatten bs))
+      (body-there at (pre ++ b) bs e r (omega (arith, length-append pre b, length-append b (flatten (take e bs)))) (omega arith))
 
 pub length-contents : (at : ℕ) (bs : List (List ℕ)) → length (contents at bs) ≡ 4 * length bs
 unfolding contents
 length-contents at [] = refl
 length-contents at (b ∷ bs) = omega (arith, length-contents (at + length b) bs)
 
--- ---- an opening, contents and bodies, with whatever follows
+-- ---- the image of a table, with whatever follows
 
-abbrev behind : ℕ → List (List ℕ) → List ℕ → List ℕ
-behind n bs rest = contents (firstBody n) bs ++ (flatten bs ++ rest)
+module _ (t : Table) where
+  abbrev pub front : List ℕ
+  front = contents (firstBody (count t)) (bodies t)
 
-abbrev pub joined : ℕ → List (List ℕ) → List ℕ → List ℕ
-joined n bs rest = opening n ++ behind n bs rest
+  -- where body e begins
+  abbrev pub place : ℕ → ℕ
+  place e = firstBody (count t) + length (flatten (take e (bodies t)))
 
-module _ (n : ℕ) (bs : List (List ℕ)) (rest d : List ℕ) (many : length bs ≡ n + 1) (short : firstBody n + length (flatten bs) < 65536) where
-  pub length-joined : length (joined n bs rest) ≡ firstBody n + length (flatten bs) + length rest
-  length-joined =
-      omega (arith, length-append (contents (firstBody n) bs) (flatten bs ++ rest), length-append (flatten bs) rest, length-contents (firstBody n) bs)
+  abbrev pub joined : List ℕ → List ℕ
+  joined rest = opening (count t) ++ (front ++ (flatten (bodies t) ++ rest))
 
-  module _ (e : ℕ) (h : e ≤ n) where
-    says : Says (behind n bs rest) e (place (firstBody n) bs e) (length (getD bs e d))
-    says = contents-say d (firstBody n) bs e (flatten bs ++ rest) (omega arith) short
+  pub many : length (bodies t) ≡ count t + 1
+  many = omega (arith, length-map (t .servers) serverBody)
 
-    pub joined-offset : offset (joined n bs rest) e ≡ place (firstBody n) bs e
-    joined-offset = half-past (opening n) (behind n bs rest) 8 (4 * e) refl ∙ says .offset
+  pub length-image : length (image t) ≡ firstBody (count t) + length (flatten (bodies t))
+  unfolding image
+  length-image = omega (arith, many, length-append front (flatten (bodies t)), length-contents (firstBody (count t)) (bodies t))
 
-    pub joined-size : size (joined n bs rest) e ≡ length (getD bs e d)
-    joined-size =
+  pub image-joined : (rest : List ℕ) → image t ++ rest ≡ joined rest
+  unfolding image
+  image-joined rest =
+      append-assoc (opening (count t)) (front ++ flatten (bodies t)) rest
+      ∙ ap (λ (l : List ℕ). opening (count t) ++ l) (append-assoc front (flatten (bodies t)) rest)
+
+  module _ (short : firstBody (count t) + length (flatten (bodies t)) < 65536) (rest : List ℕ) (e : ℕ) (h : e ≤ count t) where
+    says : Says (front ++ (flatten (bodies t) ++ rest)) e (place e) (length (getD (bodies t) e (serverBody absent)))
+    says = contents-say (serverBody absent) (firstBody (count t)) (bodies t) e (flatten (bodies t) ++ rest) (omega (arith, many)) short
+
+    pub its-offset : offset (joined rest) e ≡ place e
+    its-offset = half-past (opening (count t)) (front ++ (flatten (bodies t) ++ rest)) 8 (4 * e) refl ∙ says .offset
+
+    pub its-size : size (joined rest) e ≡ length (getD (bodies t) e (serverBody absent))
+    its-size =
         let on : 10 + 4 * e ≡ 8 + (4 * e + 2) = omega arith in
-        rw on (half-past (opening n) (behind n bs rest) 8 (4 * e + 2) refl ∙ says .size)
+        rw on (half-past (opening (count t)) (front ++ (flatten (bodies t) ++ rest)) 8 (4 * e + 2) refl ∙ says .size)
 
-    pub joined-stop : stop (joined n bs rest) e ≡ place (firstBody n) bs (suc e)
-    joined-stop = rw (joined-offset, joined-size) (sym (place-next d (firstBody n) bs e (omega arith)))
+    pub its-stop : stop (joined rest) e ≡ place (suc e)
+    its-stop =
+        let more = flatten-more (serverBody absent) (bodies t) e (omega (arith, many)) in
+        let long = length-append (flatten (take e (bodies t))) (getD (bodies t) e (serverBody absent)) in
+        rw (its-offset, its-size, more) (omega (arith, long))
 
-    pub joined-body : body (joined n bs rest) e ≡ getD bs e d
-    joined-body =
-        let pre = opening n ++ contents (firstBody n) bs in
-        let long : length pre ≡ firstBody n = omega (arith, length-contents (firstBody n) bs) in
-        rw (joined-offset, joined-size, ← append-assoc (opening n) (contents (firstBody n) bs) (flatten bs ++ rest))
-        (body-there d (firstBody n) pre bs e rest long (omega arith))
+    pub its-body : body (joined rest) e ≡ getD (bodies t) e (serverBody absent)
+    its-body =
+        let pre = opening (count t) ++ front in
+        let long : length pre ≡ firstBody (count t) = omega (arith, many, length-contents (firstBody (count t)) (bodies t)) in
+        rw (its-offset, its-size, ← append-assoc (opening (count t)) front (flatten (bodies t) ++ rest))
+        (body-there (serverBody absent) (place e) pre (bodies t) e rest (omega arith) (omega (arith, many)))

@@ -3,10 +3,10 @@ use Prim.Native.Nat.{ℕ, zero, suc, _+_, _*_, _%_, _≤_, _<_}
 use native.Mathlib.Omega.{arith}
 use mathlib.Core.Path.{_≡_, refl, ap, sym, subst, _∙_}
 use mathlib.Core.Bool.{false, _&&_}
-use mathlib.Core.List.{List, [], _∷_, _++_, append-assoc, map, flatten}
+use mathlib.Core.List.{List, [], _∷_, _++_, map, flatten}
 use lib.Dec.{leb, eqb}
 use lib.ListN.{length, getD, take, length-append, length-map, List·getD-map}
-use lib.Seq.{take-suc, take-length}
+use lib.Seq.{take-suc, take-length, take-all}
 use borrow.Author.Tests.{le-ltb, eq-eqb}
 use Rattle.words.specs.Refusal.{first}
 use Rattle.words.proofs.Tests.{Passes, together, is-equal, is-at-most, is-true}
@@ -21,11 +21,11 @@ use Rattle.table.proofs.SoundLaws.{marks-sound}
 use Rattle.table.proofs.HeldLaws.{roomy-at}
 use Rattle.table.proofs.StoredLaws.{its-shape}
 use Rattle.image.specs.Contents.{firstBody, figureBytes, opened, counted, offset, size, stop, start, mayHave, laid, laidOut}
-use Rattle.image.specs.Image.{opening, marksBody, serverBody, bodies, contents, image}
+use Rattle.image.specs.Image.{marksBody, serverBody, bodies, image}
 use Rattle.image.specs.Bodies.{body, marksIn, serverIn, soundMarksBody, soundServerBody, soundAt, soundBodies}
 use Rattle.reader.specs.Reader.{serversTo, readReply, readTable, readEnd}
 use Rattle.words.proofs.BelowLaws.{below-all}
-use Rattle.image.proofs.ImageLaws.{place, place-last, place-most, joined, length-joined, length-contents, joined-offset, joined-size, joined-stop, joined-body}
+use Rattle.image.proofs.ImageLaws.{flatten-most, place, joined, many, length-image, image-joined, its-offset, its-size, its-stop, its-body}
 use Rattle.reader.proofs.BodyBack.{length-trimmed, length-body, marks-back, marks-pass, server-back, server-pass}
 
 -- bodies have room for their places in two bytes
@@ -51,9 +51,6 @@ module _ (t : Table) (h : broken t ≡ false) where
 
   shape : Shaped t
   shape = its-shape t h
-
-  many : length (bodies t) ≡ count t + 1
-  many = omega (arith, length-map (t .servers) serverBody)
 
   short : firstBody (count t) + length (flatten (bodies t)) < 65536
   unfolding flatten
@@ -97,48 +94,43 @@ module _ (t : Table) (h : broken t ≡ false) where
 
   module _ (rest : List ℕ) where
     abbrev im : List ℕ
-    im = joined (count t) (bodies t) rest
-
-    module _ (e : ℕ) (l : e ≤ count t) where
-      its-offset : offset im e ≡ place (firstBody (count t)) (bodies t) e
-      its-offset = joined-offset (count t) (bodies t) rest (serverBody absent) many short e l
-
-      its-size : size im e ≡ length (getD (bodies t) e (serverBody absent))
-      its-size = joined-size (count t) (bodies t) rest (serverBody absent) many short e l
-
-      its-stop : stop im e ≡ place (firstBody (count t)) (bodies t) (suc e)
-      its-stop = joined-stop (count t) (bodies t) rest (serverBody absent) many short e l
-
-      its-body : body im e ≡ getD (bodies t) e (serverBody absent)
-      its-body = joined-body (count t) (bodies t) rest (serverBody absent) many short e l
+    im = joined t rest
 
     -- ---- no refusal holds
 
-    begins : (e : ℕ) → e ≤ count t → place (firstBody (count t)) (bodies t) e ≡ start im e
-    unfolding place
-    begins zero l = refl
-    begins (suc e) l = sym (its-stop e (omega arith))
+    begins : (e : ℕ) → e ≤ count t → place t e ≡ start im e
+    unfolding flatten
+    begins zero l = omega arith
+    begins (suc e) l = sym (its-stop t short rest e (omega arith))
 
-    long : length im ≡ firstBody (count t) + length (flatten (bodies t)) + length rest
-    long = length-joined (count t) (bodies t) rest (serverBody absent) many short
+    long : length im ≡ length (image t) + length rest
+    long = ap length (sym (image-joined t rest)) ∙ length-append (image t) rest
 
     laid-at : (e : ℕ) → e < count t + 1 → Passes (laid im e)
     laid-at e k =
         let l : e ≤ count t = omega arith in
         together {a = eqb (offset im e) (start im e) && mayHave e (size im e)}
-        (together {a = eqb (offset im e) (start im e)} (is-equal (its-offset e l ∙ begins e l))
-        (subst (λ (v : ℕ). Passes (mayHave e v)) (sym (its-size e l)) (sized e l)))
-        (is-at-most {a = stop im e} {b = length im} (omega (arith, its-stop e l, place-most (firstBody (count t)) (bodies t) (suc e), long)))
+        (together {a = eqb (offset im e) (start im e)} (is-equal (its-offset t short rest e l ∙ begins e l))
+        (subst (λ (v : ℕ). Passes (mayHave e v)) (sym (its-size t short rest e l)) (sized e l)))
+        (is-at-most {a = stop im e} {b = length im}
+        (omega (
+          arith,
+          its-offset t short rest e l,
+          its-size t short rest e l,
+          flatten-most (serverBody absent) (bodies t) e (omega (arith, many t)),
+          length-image t,
+          long,
+        )))
 
     laid-out : Passes (laidOut im)
     unfolding laidOut
-    laid-out = together {a = leb (firstBody (count t)) (length im)} (is-at-most {a = firstBody (count t)} {b = length im} (omega (arith, long))) (below-all (count t + 1) (laid im) laid-at)
+    laid-out = together {a = leb (firstBody (count t)) (length im)} (is-at-most {a = firstBody (count t)} {b = length im} (omega (arith, long, length-image t))) (below-all (count t + 1) (laid im) laid-at)
 
     sound-body : (e : ℕ) → e < count t + 1 → Passes (soundAt im e)
-    sound-body zero k = subst (λ (b : List ℕ). Passes (soundMarksBody b)) (sym (its-body 0 (omega arith))) (marks-pass (t .marks) low)
+    sound-body zero k = subst (λ (b : List ℕ). Passes (soundMarksBody b)) (sym (its-body t short rest 0 (omega arith))) (marks-pass (t .marks) low)
     sound-body (suc s) k =
         let l : suc s ≤ count t = omega arith in
-        subst (λ (b : List ℕ). Passes (soundServerBody (count t) b)) (sym (its-body (suc s) l ∙ body-at s l))
+        subst (λ (b : List ℕ). Passes (soundServerBody (count t) b)) (sym (its-body t short rest (suc s) l ∙ body-at s l))
         (server-pass (count t) (getD (t .servers) s absent) (sound-at s l) (small-at s l))
 
     all-sound : Passes (soundBodies im)
@@ -151,7 +143,7 @@ module _ (t : Table) (h : broken t ≡ false) where
         let some : Passes (counted im) = together {a = leb 1 (count t)} (is-at-most (rules .some)) (is-at-most (rules .few)) in
         rw (
           eq-eqb (length slice) tableBytes e,
-          le-ltb (length im) 8 (omega (arith, long)),
+          le-ltb (length im) 8 (omega (arith, long, length-image t)),
           is-true (counted im) (some .yes),
           is-true (laidOut im) (laid-out .yes),
           is-true (soundBodies im) (all-sound .yes),
@@ -165,37 +157,27 @@ module _ (t : Table) (h : broken t ≡ false) where
     servers-to (suc k) l =
         let a = getD (t .servers) k absent in
         let read : serverIn (body im (suc k)) ≡ a =
-        ap serverIn (its-body (suc k) l ∙ body-at k l) ∙ server-back (count t) a (sound-at k l) (small-at k l) in
+        ap serverIn (its-body t short rest (suc k) l ∙ body-at k l) ∙ server-back (count t) a (sound-at k l) (small-at k l) in
         rw (servers-to k (omega arith), read) (sym (take-suc (t .servers) k absent l))
 
     table : readTable im ≡ t
     table =
         let servers = servers-to (count t) (omega arith) ∙ take-length (t .servers) in
-        let marks = ap marksIn (its-body 0 (omega arith)) ∙ marks-back (t .marks) low (shape .marked) in
+        let marks = ap marksIn (its-body t short rest 0 (omega arith)) ∙ marks-back (t .marks) low (shape .marked) in
         λ d. record { servers = servers d; marks = marks d }
 
     end : readEnd im ≡ length (image t)
-    unfolding image
     end =
-        let all : suc (count t) ≡ length (bodies t) = omega (arith, many) in
-        its-stop (count t) (omega arith)
-        ∙ ap (place (firstBody (count t)) (bodies t)) all
-        ∙ place-last (firstBody (count t)) (bodies t)
-        ∙ omega (arith, many, length-append (contents (firstBody (count t)) (bodies t)) (flatten (bodies t)), length-contents (firstBody (count t)) (bodies t))
+        let all : take (suc (count t)) (bodies t) ≡ bodies t = take-all (suc (count t)) (bodies t) (omega (arith, many t)) in
+        its-stop t short rest (count t) (omega arith) ∙ rw all (sym (length-image t))
 
     -- ---- and so of the image itself
 
-    same : image t ++ rest ≡ im
-    unfolding image
-    same =
-        append-assoc (opening (count t)) (contents (firstBody (count t)) (bodies t) ++ flatten (bodies t)) rest
-        ∙ ap (λ (l : List ℕ). opening (count t) ++ l) (append-assoc (contents (firstBody (count t)) (bodies t)) (flatten (bodies t)) rest)
-
     pub number-back : (slice : List ℕ) → length slice ≡ tableBytes → readReply (image t ++ rest) slice ≡ 0
-    number-back slice e = rw same (number slice e)
+    number-back slice e = rw image-joined (number slice e)
 
     pub table-back : readTable (image t ++ rest) ≡ t
-    table-back = ap readTable same ∙ table
+    table-back = ap readTable (image-joined t rest) ∙ table
 
     pub end-back : readEnd (image t ++ rest) ≡ length (image t)
-    end-back = ap readEnd same ∙ end
+    end-back = ap readEnd (image-joined t rest) ∙ end

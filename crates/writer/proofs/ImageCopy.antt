@@ -6,22 +6,21 @@ use native.Mathlib.Omega.{arith}
 use mathlib.Core.Path.{_≡_, refl, ap, ap₂, sym, _∙_}
 use mathlib.Core.Bool.{Bool, _&&_}
 use mathlib.Core.List.{List, [], _∷_, _++_, append-assoc, append-nil, flatten}
-use lib.Dec.{T, leb, eqb, eqb→eq}
+use lib.Dec.{T, eqb, eqb→eq}
 use lib.ListN.{length, getD, take, drop, length-append, length-drop, length-map, List·getD-append, List·getD-map}
 use lib.Seq.{take-all, take-add, getD-drop, getD-at, length-take-le}
-use Rattle.words.proofs.Tests.{Passes, both, refuted, equal, three}
-use Rattle.algorithm.specs.Table.{absent, positions}
-use Rattle.words.specs.Lists.{every}
-use Rattle.words.proofs.RefusalLaws.{none-hold}
+use Rattle.words.proofs.Tests.{Passes, both, equal, three}
+use Rattle.algorithm.specs.Table.{absent}
 use Rattle.words.specs.Words.{half}
-use Rattle.image.specs.Contents.{firstBody, opened, countIn, offset, size, stop, start, fixed, mayHave, laid, laidOut}
+use Rattle.image.specs.Contents.{firstBody, countIn, offset, size, start}
 use Rattle.words.proofs.BelowLaws.{all-below}
 use Rattle.image.specs.Bodies.{body, serverIn, soundAt, soundBodies}
 use Rattle.image.specs.Image.{opening, serverBody, bodies, contents, image}
-use Rattle.reader.specs.Reader.{readRefusals, readReply, serversTo, readTable, readEnd}
+use Rattle.reader.specs.Reader.{readReply, serversTo, readTable, readEnd}
 use Rattle.reader.proofs.FillLaws.{length-servers}
 use Rattle.reader.proofs.ReplyLaws.{Readable, readable}
-use Rattle.writer.proofs.PlaceLaws.{flatten-more, contents-more}
+use Rattle.image.proofs.ImageLaws.{flatten-more}
+use Rattle.writer.proofs.PlaceLaws.{contents-more}
 use Rattle.writer.proofs.BodyCopy.{Bytes, part-bytes, half-of, marks-copy, server-copy}
 
 -- ---- some bytes one by one
@@ -68,22 +67,6 @@ module _ (im slice : List ℕ) (e : readReply im slice ≡ 0) (byte : Bytes im) 
   many : length bs ≡ n + 1
   many = omega (arith, length-map (serversTo n im) serverBody, length-servers n im)
 
-  found : Passes (opened im) × Passes (laidOut im)
-  unfolding readReply every
-  found =
-      let none = none-hold (readRefusals im slice) tt e in
-      (refuted {b = opened im} (none 31), refuted {b = laidOut im} (none 33))
-
-  -- entry k is as it has to be
-  entry : (k : ℕ) → k ≤ n → (offset im k ≡ start im k) × (size im k % 4 ≡ 0)
-  unfolding laidOut
-  entry k l =
-      let (_, all) = both {a = leb (firstBody n) (length im)} (found .1) in
-      let here = all-below (n + 1) (laid im) all k (omega arith) in
-      let (place, sized, _) = three (eqb (offset im k) (start im k)) (mayHave k (size im k)) (leb (stop im k) (length im)) (here .yes) in
-      let (_, _, four) = three (leb (fixed k) (size im k)) (leb (size im k) (fixed k + 4 * positions)) (eqb (size im k % 4) 0) sized in
-      (eqb→eq (offset im k) (start im k) place, eqb→eq (size im k % 4) 0 four)
-
   module _ (k : ℕ) (l : k ≤ n) where
     length-part : length (body im k) ≡ size im k
     length-part =
@@ -91,7 +74,7 @@ module _ (im slice : List ℕ) (e : readReply im slice ≡ 0) (byte : Bytes im) 
         (omega (arith, length-drop (offset im k) im, read .named .each k l .within))
 
     length-four : length (body im k) ≡ 4 * (size im k / 4)
-    length-four = omega (arith, length-part, entry k l .1)
+    length-four = omega (arith, length-part, read .extents k l .four)
 
     part-byte : Bytes (body im k)
     part-byte = part-bytes (size im k) (offset im k) im byte
@@ -117,7 +100,7 @@ module _ (im slice : List ℕ) (e : readReply im slice ≡ 0) (byte : Bytes im) 
   upto zero l = append-nil (take (firstBody n) im)
   upto (suc k) l =
       let here : k ≤ n = omega arith in
-      rw (flatten-more (serverBody absent) bs k (omega (arith, many)), copied k here, ← append-assoc (take (firstBody n) im) (flatten (take k bs)) (body im k), upto k (omega arith), ← entry k here .0)
+      rw (flatten-more (serverBody absent) bs k (omega (arith, many)), copied k here, ← append-assoc (take (firstBody n) im) (flatten (take k bs)) (body im k), upto k (omega arith), ← read .extents k here .place)
       (sym (take-add (offset im k) (size im k) im))
 
   within : (k : ℕ) → k ≤ n + 1 → start im k ≤ length im
@@ -134,7 +117,7 @@ module _ (im slice : List ℕ) (e : readReply im slice ≡ 0) (byte : Bytes im) 
         length-append (take (firstBody n) im) (flatten (take k bs)),
         length-take-le (firstBody n) im (read .named .complete),
         length-take-le (start im k) im (within k m),
-        entry k l .0,
+        read .extents k l .place,
       )
 
   -- the four bytes of entry k
@@ -157,7 +140,7 @@ module _ (im slice : List ℕ) (e : readReply im slice ≡ 0) (byte : Bytes im) 
 
   opens : take 8 im ≡ opening n
   opens =
-      let (most, g, h) = three (is 0 83 && is 1 73 && is 2 84 && is 3 69 && is 5 0) (is 6 0) (is 7 0) (found .0 .yes) in
+      let (most, g, h) = three (is 0 83 && is 1 73 && is 2 84 && is 3 69 && is 5 0) (is 6 0) (is 7 0) (read .opened .yes) in
       let (some, d, f) = three (is 0 83 && is 1 73 && is 2 84) (is 3 69) (is 5 0) most in
       let (a, b, c) = three (is 0 83) (is 1 73) (is 2 84) some in
       let long = read .named .complete in

@@ -3,9 +3,9 @@ use Prim.Native.Nat.{ℕ, zero, suc, _+_, _-_, _*_, _≤_, _<_}
 use native.Mathlib.Nat.{add-assoc}
 use native.Mathlib.Numerals.{add-one}
 use native.Mathlib.Omega.{arith}
-use mathlib.Core.Path.{_≡_, refl, ap, sym, _∙_}
-use mathlib.Core.List.{List, [], _∷_, _++_, append-assoc, append-nil, flatten}
-use lib.ListN.{length, getD, take, drop, length-append, length-drop, length-map}
+use mathlib.Core.Path.{_≡_, refl, ap, _∙_}
+use mathlib.Core.List.{List, [], _∷_, _++_, flatten}
+use lib.ListN.{length, getD, take, drop, length-append, length-drop}
 use lib.Seq.{take-all}
 use Rattle.algorithm.specs.Table.{Table, absent, count, positions, mostServers}
 use Rattle.words.specs.Words.{half}
@@ -14,26 +14,12 @@ use Rattle.buffer.specs.Buffer.{Wrote}
 use Rattle.buffer.proofs.WroteLaws.{wrote-none, sized, then, part, part-wrote}
 use Rattle.image.specs.Contents.{firstBody, figureBytes}
 use Rattle.image.specs.Image.{opening, serverBody, bodies, contents, image}
-use Rattle.image.proofs.ImageLaws.{length-contents}
+use Rattle.image.proofs.ImageLaws.{flatten-more, flatten-most, length-contents, place, many, length-image}
 use Rattle.writer.specs.Written.{bodyOf, Savable}
 
--- ---- one more of some bodies
+-- ---- one entry more
 
 module _ (d : List ℕ) where
-  pub flatten-more : (bs : List (List ℕ)) (e : ℕ) → e < length bs → flatten (take (suc e) bs) ≡ flatten (take e bs) ++ getD bs e d
-  unfolding flatten
-  flatten-more [] e h = absurd (omega arith)
-  flatten-more (b ∷ bs) zero h = append-nil b
-  flatten-more (b ∷ bs) (suc e) h =
-      ap (λ (l : List ℕ). b ++ l) (flatten-more bs e (omega arith)) ∙ sym (append-assoc b (flatten (take e bs)) (getD bs e d))
-
-  flatten-most : (bs : List (List ℕ)) (e : ℕ) → e < length bs → length (flatten (take e bs)) + length (getD bs e d) ≤ length (flatten bs)
-  unfolding flatten
-  flatten-most [] e h = absurd (omega arith)
-  flatten-most (b ∷ bs) zero h = omega (arith, length-append b (flatten bs))
-  flatten-most (b ∷ bs) (suc e) h =
-      omega (arith, length-append b (flatten (take e bs)), length-append b (flatten bs), flatten-most bs e (omega arith))
-
   pub contents-more : (at : ℕ) (bs : List (List ℕ)) (e : ℕ) → e < length bs
       → contents at (take (suc e) bs) ≡ contents at (take e bs) ++ (half (at + length (flatten (take e bs))) ++ half (length (getD bs e d)))
   unfolding contents flatten
@@ -46,18 +32,9 @@ module _ (d : List ℕ) where
 
 -- ---- the places of a table's bodies
 
-many : (t : Table) → length (bodies t) ≡ count t + 1
-many t = omega (arith, length-map (t .servers) serverBody)
-
-pub length-image : (t : Table) → length (image t) ≡ firstBody (count t) + length (flatten (bodies t))
-unfolding image
-length-image t =
-    let front = contents (firstBody (count t)) (bodies t) in
-    omega (arith, many t, length-append front (flatten (bodies t)), length-contents (firstBody (count t)) (bodies t))
-
 -- body e begins at a place
 pub record Placed (t : Table) (e at : ℕ) : Type 0 where
-  pub offset : at ≡ firstBody (count t) + length (flatten (take e (bodies t)))
+  pub offset : at ≡ place t e
   pub small : at ≤ firstBody mostServers + (figureBytes + 4 * positions) * e
 
 module _ (t : List ℕ) (n : ℕ) (c : n ≡ count (tableIn t)) where
