@@ -14,8 +14,7 @@ use Rattle.words.proofs.Tests.{Passes, first-of, second-of, is-equal}
 use Rattle.words.proofs.RefusalLaws.{lacks, first-later}
 use Rattle.algorithm.specs.Table.{Table, count, server, mark}
 use Rattle.algorithm.specs.Actions.{markedOtherwise, entryRefusals, Action, unknown, elect, reconfigure, send, spread, write, fetch, rollBack, commit, actionOf}
-use Rattle.algorithm.specs.Refusals.{commonRefusals, ownRefusals, refusals}
-use Rattle.algorithm.specs.Run.{step}
+use Rattle.algorithm.specs.Run.{commonRefusals, ownRefusals, refusals, step}
 use Rattle.algorithm.proofs.Refused.{Fits, common-fit}
 use Rattle.algorithm.proofs.Full.{CanCommit}
 use Rattle.algorithm.proofs.Safety.{marked-so}

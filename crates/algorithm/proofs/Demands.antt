@@ -8,12 +8,11 @@ use native.Mathlib.Omega.{arith}
 use lib.Dec.{T}
 use lib.ListN.{getD}
 use mir.Facts.{eqb-yes}
-use Rattle.algorithm.specs.Table.{Table, server, primary, termAt, mark, fresh}
-use Rattle.algorithm.specs.Comparisons.{held}
+use Rattle.algorithm.specs.Table.{Table, server, primary, termAt, mark, fresh, held}
 use Rattle.algorithm.specs.Run.{step, pieces, play, runTo}
 use Rattle.algorithm.specs.Demand.{wonBy, wonAlong, termsWon, Rising}
-use Rattle.algorithm.specs.Logless as logless
-use Rattle.algorithm.specs.Logless.{core, Moves, none, then}
+use Rattle.algorithm.proofs.Logless as logless
+use Rattle.algorithm.proofs.Logless.{core, Moves, none, then}
 use Rattle.algorithm.proofs.Logs.{HasEntry}
 use Rattle.algorithm.proofs.Invariant.{Leads}
 use Rattle.algorithm.proofs.Elections.{wins-rise}

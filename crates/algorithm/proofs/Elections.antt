@@ -10,7 +10,7 @@ use Rattle.members.proofs.Majorities.{same-set}
 use Rattle.algorithm.specs.Table.{Config, freshServer, absent}
 use Rattle.algorithm.specs.Actions.{winner}
 use Rattle.algorithm.specs.Demand.{Rising}
-use Rattle.algorithm.specs.Logless.{State, elect, reconfigure, send, spread, after, voted, Move, rests, takes, Moves, none, then, Fresh}
+use Rattle.algorithm.proofs.Logless.{State, elect, reconfigure, send, spread, after, voted, Move, rests, takes, Moves, none, then, Fresh}
 use Rattle.words.proofs.Choice.{put-same}
 use Rattle.algorithm.proofs.Invariant.{Reaches, Has, here, Leads, Active, Inv}
 use Rattle.algorithm.proofs.Steps.{step, inv-after, election-new}

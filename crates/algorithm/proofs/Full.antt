@@ -7,10 +7,9 @@ use mathlib.Core.Path.{_≡_}
 use lib.Dec.{T}
 use lib.ListN.{length, take}
 use Rattle.members.specs.Members.{All, Majority, Most}
-use Rattle.algorithm.specs.Table.{entry, Log, entryAt, termAt}
-use Rattle.algorithm.specs.Comparisons.{last, ahead}
-use Rattle.algorithm.specs.Logless as logless
-use Rattle.algorithm.specs.Logless.{State}
+use Rattle.algorithm.specs.Table.{entry, Log, entryAt, termAt, last, ahead}
+use Rattle.algorithm.proofs.Logless as logless
+use Rattle.algorithm.proofs.Logless.{State}
 use Rattle.words.specs.Lists.{put}
 use Rattle.algorithm.proofs.Logs.{HasEntry, Prefix}
 

@@ -9,7 +9,7 @@ use native.Mathlib.Omega.{arith}
 use Rattle.members.specs.Members.{All, Some, Most, Hits, MajoritiesMeet}
 use Rattle.members.proofs.Majorities.{same-set, all-or-some, meet-sym, most-hits, hits-map}
 use Rattle.algorithm.specs.Table.{Config, Server}
-use Rattle.algorithm.specs.Logless.{State}
+use Rattle.algorithm.proofs.Logless.{State}
 
 infix 30 _≼_ _≺_
 -- D is not older than C

@@ -10,7 +10,7 @@ use lib.ListN.{length}
 use Rattle.members.specs.Members.{Most, Hits}
 use Rattle.members.proofs.Majorities.{most-hits, most-and-hits, most-map, hits-map}
 use Rattle.algorithm.specs.Table.{Config, Entry, Log, termAt}
-use Rattle.algorithm.specs.Logless.{State, Action, Allowed, after}
+use Rattle.algorithm.proofs.Logless.{State, Action, Allowed, after}
 use Rattle.words.specs.Lists.{put}
 use Rattle.words.proofs.Choice.{put-elim, put-same}
 use Rattle.algorithm.proofs.Logs.{HasEntry, Same, Prefix, prefix-holds, length-plus, at-plus, at-plus-end, plus-holds}

@@ -6,9 +6,8 @@ use native.Mathlib.Numerals.{add-one}
 use native.Mathlib.Omega.{arith}
 use lib.ListN.{length, take, length-append, length-take, List·getD-append}
 use lib.Seq.{getD-append-seam, getD-take}
-use Rattle.algorithm.specs.Table.{Entry, Log, termAt}
+use Rattle.algorithm.specs.Table.{Entry, Log, termAt, last}
 use Rattle.words.specs.Lists.{nth}
-use Rattle.algorithm.specs.Comparisons.{last}
 
 -- l has an entry of term t at position p
 pub record HasEntry (l : Log) (p t : ℕ) : Type 0 where

@@ -7,8 +7,8 @@ use native.Mathlib.Omega.{arith}
 use lib.ListN.{length, getD, replicate}
 use Rattle.words.specs.Lists.{nth}
 use Rattle.algorithm.specs.Table.{server, mark, withLog, positions, fresh}
-use Rattle.algorithm.specs.Logless as logless
-use Rattle.algorithm.specs.Logless.{core, Fresh}
+use Rattle.algorithm.proofs.Logless as logless
+use Rattle.algorithm.proofs.Logless.{core, Fresh}
 use Rattle.algorithm.proofs.Logs.{HasEntry}
 use Rattle.algorithm.proofs.Invariant.{Inv}
 use Rattle.algorithm.proofs.Steps.{inv-after}

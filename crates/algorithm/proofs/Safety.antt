@@ -11,10 +11,9 @@ use lib.Dec.{T}
 use lib.ListN.{length, take}
 use Rattle.members.specs.Members.{Most, Hits}
 use Rattle.members.proofs.Majorities.{most-hits, most-map}
-use Rattle.algorithm.specs.Table.{Config, Entry, Log, entryAt, termAt}
-use Rattle.algorithm.specs.Comparisons.{last, ahead}
-use Rattle.algorithm.specs.Logless as logless
-use Rattle.algorithm.specs.Logless.{State, CanElect, CanReconfigure}
+use Rattle.algorithm.specs.Table.{Config, Entry, Log, entryAt, termAt, last, ahead}
+use Rattle.algorithm.proofs.Logless as logless
+use Rattle.algorithm.proofs.Logless.{State, CanElect, CanReconfigure}
 use Rattle.words.specs.Lists.{put}
 use Rattle.words.proofs.Choice.{put-elim}
 use Rattle.algorithm.proofs.Logs.{HasEntry, Same, Prefix, at-zero, prefix-refl, plus-holds, length-plus, at-plus, at-plus-end, length-cut, at-cut, last-held, last-positive}

@@ -14,9 +14,9 @@ use Rattle.members.proofs.Masks.{member-above}
 use Rattle.words.specs.Lists.{nth, put}
 use Rattle.algorithm.specs.Table.{Log, Server, Table, count, absent, server, mark, withServer, withLog, freshServer, fresh}
 use Rattle.algorithm.specs.Actions.{steppedDown, votersFrom, voted}
-use Rattle.algorithm.specs.Refusals.{known}
-use Rattle.algorithm.specs.Logless as logless
-use Rattle.algorithm.specs.Logless.{State, core}
+use Rattle.algorithm.specs.Run.{known}
+use Rattle.algorithm.proofs.Logless as logless
+use Rattle.algorithm.proofs.Logless.{State, core}
 use Rattle.words.proofs.Choice.{put-elim}
 use Rattle.words.proofs.Lists.{nth-replace}
 use Rattle.algorithm.proofs.Full.{View}

@@ -12,7 +12,7 @@ use Rattle.words.proofs.Tests.{Passes, Fails, both, together, either, first-of,
 use Rattle.words.specs.Lists.{replace, every}
 use Rattle.algorithm.specs.Table.{Config, Server, Table, count, absent, server, primary, secondary, withServers, withServer, withMark, ceiling, positions, soundConfig, soundEntry, soundServer, broken, mostServers}
 use Rattle.algorithm.specs.Actions.{steppedDown, votersFrom, voted}
-use Rattle.algorithm.specs.Refusals.{known}
+use Rattle.algorithm.specs.Run.{known}
 use Rattle.words.proofs.Choice.{cond-elim}
 use Rattle.words.proofs.Lists.{length-replace, every-cons, cons-every, every-nth, every-replace}
 use Rattle.algorithm.proofs.Seen.{known-range, count-voted}

@@ -7,10 +7,9 @@ use native.Mathlib.Omega.{arith}
 use lib.Dec.{T, T-not}
 use Rattle.members.specs.Members.{member, Member, MajoritiesMeet, All}
 use Rattle.members.proofs.Majorities.{most-and-hits}
-use Rattle.algorithm.specs.Table.{Config, Server, withConfig}
-use Rattle.algorithm.specs.Comparisons.{newer}
+use Rattle.algorithm.specs.Table.{Config, Server, withConfig, newer}
 use Rattle.algorithm.specs.Actions.{steppedDown, winner, nextConfig}
-use Rattle.algorithm.specs.Logless.{State, Action, elect, reconfigure, send, spread, CanElect, CanReconfigure, CanSend, Allowed, voted, after}
+use Rattle.algorithm.proofs.Logless.{State, Action, elect, reconfigure, send, spread, CanElect, CanReconfigure, CanSend, Allowed, voted, after}
 use Rattle.words.proofs.Choice.{cond-elim, put-same, put-elim}
 use Rattle.algorithm.proofs.Orders.{larger, not-larger}
 use Rattle.algorithm.proofs.Invariant.{_≼_, Has, here, Leads, led, Active, Inv, Change, Step, kept}

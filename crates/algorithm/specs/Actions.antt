@@ -8,8 +8,7 @@ use lib.ListN.{length, getD}
 use Rattle.words.specs.Words.{pairOf}
 use Rattle.words.specs.Refusal.{Refusal, refuse}
 use Rattle.members.specs.Members.{member, oneApart, majority, allPass, somePass, mostPass}
-use Rattle.algorithm.specs.Table.{Config, configOf, entry, Log, Server, Table, count, server, primary, secondary, entryAt, termAt, mark, withServers, withServer, changed, withMark, withRole, withTerm, withConfig, withEntry, withoutLast, ceiling, positions}
-use Rattle.algorithm.specs.Comparisons.{newer, last, ahead, held, prefix}
+use Rattle.algorithm.specs.Table.{Config, configOf, entry, Log, Server, Table, count, server, primary, secondary, entryAt, termAt, mark, withServers, withServer, changed, withMark, withRole, withTerm, withConfig, withEntry, withoutLast, ceiling, positions, newer, last, ahead, held, prefix}
 
 -- ---- the bytes by their places: 0 the kind, 1 and 2 servers i and j, 4 and 5 the set; 3, 6 and 7 are 0
 

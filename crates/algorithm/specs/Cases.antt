@@ -3,8 +3,7 @@ use Prim.Native.Nat.{ℕ}
 use mathlib.Core.List.{List, [], _∷_, _++_}
 use lib.ListN.{length}
 use Rattle.members.specs.Members.{one}
-use Rattle.algorithm.specs.Table.{configOf, entries, Table, server, withServer, withLog, freshServer, fresh}
-use Rattle.algorithm.specs.Comparisons.{newer, ahead}
+use Rattle.algorithm.specs.Table.{configOf, entries, Table, server, withServer, withLog, freshServer, fresh, newer, ahead}
 use Rattle.words.specs.Words.{half}
 use Rattle.algorithm.specs.Actions.{winner}
 use Rattle.algorithm.specs.Run.{run}

@@ -1,8 +1,8 @@
--- The table: its figures, its rules, and a fresh one. Assumes nothing.
+-- The table: its figures, its rules, a fresh one, and how configurations and logs compare. (What a majority is stands in `members`.) Assumes nothing.
 use Prim.Native.Nat.{ℕ, zero, suc, _-_}
-use mathlib.Core.Bool.{Bool, not, _||_, _&&_}
+use mathlib.Core.Bool.{Bool, not, _||_, _&&_, true, false}
 use mathlib.Core.List.{List, [], _∷_, _++_, map}
-use lib.Dec.{leb, eqb}
+use lib.Dec.{leb, eqb, ltb}
 use lib.ListN.{length, set, take, replicate}
 use Rattle.words.specs.Lists.{nth, replace, every, between}
 use Rattle.members.specs.Members.{within}
@@ -190,3 +190,29 @@ kept m (x ∷ ms) = m ∷ x ∷ ms
 unfoldable pub trimmed : List ℕ → List ℕ
 trimmed [] = []
 trimmed (m ∷ ms) = kept m (trimmed ms)
+
+-- the numbers a and p come after b and q: by the first, and where these are equal by the second
+abbrev pub later : ℕ → ℕ → ℕ → ℕ → Bool
+later a p b q = ltb b a || eqb a b && ltb q p
+
+-- C is newer than D: by its configuration term, and where these are equal by its version
+abbrev pub newer : Config → Config → Bool
+newer C D = later (C .term) (C .version) (D .term) (D .version)
+
+-- the last entry's term; of an empty log 0
+abbrev pub last : Log → ℕ
+last l = termAt l (length l)
+
+-- l is ahead of m: by its last entry, and where these are equal by its length
+abbrev pub ahead : Log → Log → Bool
+ahead l m = later (last l) (length l) (last m) (length m)
+
+-- the entry (p, T) is held by l: l has the term T at position p
+abbrev pub held : Log → ℕ → ℕ → Bool
+held l p T = between 1 (length l) p && eqb (termAt l p) T
+
+-- l is a prefix of m
+unfoldable pub prefix : Log → Log → Bool
+prefix [] m = true
+prefix (e ∷ l) [] = false
+prefix (e ∷ l) (f ∷ m) = eqb (e .term) (f .term) && prefix l m

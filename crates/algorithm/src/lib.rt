@@ -1,7 +1,7 @@
 // The vocabulary of the engine: roles, three counters that cannot stand for one another, and the reply to an action.
 ghost use mathlib.Core.Path.{_≡_};
 ghost use lib.Dec.{ltb, eqb};
-ghost use Rattle.algorithm.specs.Reply.{numberOf};
+ghost use Rattle.algorithm.specs.Run.{numberOf};
 
 // The two roles.
 pub const SECONDARY: u32 = 0;

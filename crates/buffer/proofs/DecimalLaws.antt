@@ -6,8 +6,7 @@ use mathlib.Core.Path.{_≡_}
 use mathlib.Core.List.{List, [], _∷_, _++_}
 use lib.ListN.{length, length-append}
 use borrow.Author.Tests.{lt-ltb, le-ltb}
-use Rattle.buffer.specs.Texts.{digits, decimal, numberRoom}
-use Rattle.buffer.specs.Buffer.{Wrote, WroteShort}
+use Rattle.buffer.specs.Buffer.{digits, decimal, numberRoom, Wrote, WroteShort}
 use Rattle.buffer.proofs.WroteLaws.{sized, then}
 
 -- more than enough steps make no other digits

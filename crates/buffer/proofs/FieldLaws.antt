@@ -3,8 +3,7 @@ use Prim.Native.Nat.{ℕ, _+_, _*_, _≤_}
 use mathlib.Core.Path.{_≡_, refl, ap, sym, _∙_}
 use mathlib.Core.List.{List, [], _∷_, _++_, append-assoc, append-nil}
 use lib.ListN.{length}
-use Rattle.buffer.specs.Texts.{text, decimal, numberRoom, field, fieldRoom, fields}
-use Rattle.buffer.specs.Buffer.{Wrote, WroteShort}
+use Rattle.buffer.specs.Buffer.{text, decimal, numberRoom, field, fieldRoom, fields, Wrote, WroteShort}
 use Rattle.buffer.proofs.WroteLaws.{wrote-none, exact, then-short}
 
 pub a-field : (b b₁ b₂ : List ℕ) (at d e v : ℕ) → Wrote b b₁ at (text " ") d → WroteShort numberRoom b₁ b₂ d (decimal v) e → WroteShort fieldRoom b b₂ at (field v) e

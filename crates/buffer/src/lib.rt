@@ -2,8 +2,7 @@
 ghost use mathlib.Core.List.{[], _∷_};
 ghost use Prim.Native.Nat.{_+_, _≤_, _<_};
 ghost use lib.ListN.{length};
-ghost use Rattle.buffer.specs.Texts.{decimal, numberRoom, field, fieldRoom};
-ghost use Rattle.buffer.specs.Buffer.{Wrote, WroteShort};
+ghost use Rattle.buffer.specs.Buffer.{decimal, numberRoom, field, fieldRoom, Wrote, WroteShort};
 use bytes::copy;
 
 pub fn put_byte(buffer: &mut [u8], at: usize, x: u8) -> usize

@@ -9,9 +9,8 @@ use lib.Dec.{eqb, leb, ltb}
 use lib.ListN.{length, drop}
 use lib.Seq.{drop-cons, drop-length}
 use borrow.Author.Tests.{ltb-true, ltb-false, eq-eqb, ne-eqb, le-leb, lt-leb}
-use Rattle.algorithm.specs.Table.{Entry, entry, Log, termAt}
+use Rattle.algorithm.specs.Table.{Entry, entry, Log, termAt, last, held, prefix}
 use Rattle.words.specs.Lists.{nth}
-use Rattle.algorithm.specs.Comparisons.{last, held, prefix}
 use Rattle.algorithm.specs.Actions.{joins}
 
 -- ---- one position

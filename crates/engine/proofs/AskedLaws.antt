@@ -12,11 +12,9 @@ use Rattle.words.specs.Refusal.{first}
 use Rattle.words.proofs.Tests.{Fails, together, neither, both-refuted, unequal, less, above, is-true, is-at-most, false-fails}
 use Rattle.words.proofs.RefusalLaws.{none-hold}
 use Rattle.members.specs.Members.{within}
-use Rattle.algorithm.specs.Table.{Log, Table, count, server, ceiling, positions}
-use Rattle.algorithm.specs.Comparisons.{last, prefix}
+use Rattle.algorithm.specs.Table.{Log, Table, count, server, ceiling, positions, last, prefix}
 use Rattle.algorithm.specs.Actions.{joins, electRefusals, reconfigureRefusals, writeRefusals, fetchRefusals, rollBackRefusals, commitRefusals}
-use Rattle.algorithm.specs.Refusals.{ownRefusals}
-use Rattle.algorithm.specs.Run.{after}
+use Rattle.algorithm.specs.Run.{ownRefusals, after}
 use Rattle.algorithm.proofs.Refused.{Fits}
 use Rattle.algorithm.proofs.Sound.{SoundServer, table-sound, here-sound}
 use Rattle.table.specs.Layout.{tableIn}

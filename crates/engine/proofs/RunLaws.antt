@@ -8,8 +8,7 @@ use native.Mathlib.Omega.{arith}
 use lib.ListN.{length, getD, take, drop, set, length-drop, replicate, length-replicate, replicate-append-replicate}
 use lib.Seq.{take-all, drop-cons, set-at}
 use Rattle.algorithm.specs.declared.Reply.{Reply}
-use Rattle.algorithm.specs.Reply.{numberOf}
-use Rattle.algorithm.specs.Run.{step, play, pieces, runTo}
+use Rattle.algorithm.specs.Run.{numberOf, step, play, pieces, runTo}
 use Rattle.algorithm.proofs.Runs.{run-next, replies-count}
 use Rattle.table.specs.Layout.{tableIn}
 use Rattle.table.specs.Slice.{Holds}

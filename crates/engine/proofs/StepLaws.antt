@@ -11,11 +11,9 @@ use Rattle.words.proofs.Tests.{fails-false, false-fails}
 use Rattle.words.proofs.RefusalLaws.{none-hold, first-held, first-none}
 use Rattle.algorithm.specs.declared.Reply.{Reply}
 use Rattle.algorithm.specs.declared.Reply.the-variants.{Taken, Refused}
-use Rattle.algorithm.specs.Reply.{numberOf, replyOf}
+use Rattle.algorithm.specs.Run.{numberOf, replyOf, formRefusals, commonRefusals, ownRefusals, refusals, after, step}
 use Rattle.algorithm.specs.Table.{count}
 use Rattle.algorithm.specs.Actions.{Action, actionOf}
-use Rattle.algorithm.specs.Refusals.{formRefusals, commonRefusals, ownRefusals, refusals}
-use Rattle.algorithm.specs.Run.{after, step}
 use Rattle.algorithm.proofs.Refused.{common-fit}
 use Rattle.algorithm.proofs.Kept.{step-sound}
 use Rattle.table.specs.Layout.{tableIn}

@@ -6,9 +6,8 @@ use mathlib.Core.Path.{_≡_}
 use lib.ListN.{length, drop, replicate}
 use Rattle.members.specs.Members.{within}
 use Rattle.algorithm.specs.declared.Reply.{Reply}
-use Rattle.algorithm.specs.Reply.{replyOf}
+use Rattle.algorithm.specs.Run.{replyOf, step, pieceCount, runTo}
 use Rattle.algorithm.specs.Table.{count, broken}
-use Rattle.algorithm.specs.Run.{step, pieceCount, runTo}
 use Rattle.table.specs.Layout.{tableIn}
 use Rattle.table.specs.Slice.{Holds, Held, Within}
 use Rattle.form.specs.declared.Asked.{Asked}

@@ -1,7 +1,6 @@
 // What is asked, done by its kind, in place.
 ghost use mathlib.Core.Path.{_≡_};
-ghost use Rattle.algorithm.specs.Refusals.{ownRefusals};
-ghost use Rattle.algorithm.specs.Run.{after};
+ghost use Rattle.algorithm.specs.Run.{ownRefusals, after};
 ghost use Rattle.words.specs.Refusal.{first};
 ghost use Rattle.table.specs.Layout.{tableIn};
 ghost use Rattle.table.specs.Slice.{Holds};

@@ -1,6 +1,6 @@
 // What is asked, judged by its kind.
 ghost use mathlib.Core.Path.{_≡_};
-ghost use Rattle.algorithm.specs.Refusals.{ownRefusals};
+ghost use Rattle.algorithm.specs.Run.{ownRefusals};
 ghost use Rattle.words.specs.Refusal.{first};
 ghost use Rattle.table.specs.Layout.{tableIn};
 ghost use Rattle.table.specs.Slice.{Held};

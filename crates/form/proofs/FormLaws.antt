@@ -15,7 +15,7 @@ use Rattle.words.proofs.Tests.{Passes, both, both-refuted, false-fails, equal, 
 use Rattle.words.proofs.BelowLaws.{all-below}
 use Rattle.words.proofs.RefusalLaws.{none-hold}
 use Rattle.algorithm.specs.Actions.{kindOf, iOf, jOf, setOf, Action, unknown, elect, reconfigure, send, spread, write, fetch, rollBack, commit, kinds, actionOf}
-use Rattle.algorithm.specs.Refusals.{strayZero, noAction, fieldRefusals, formRefusals}
+use Rattle.algorithm.specs.Run.{strayZero, noAction, fieldRefusals, formRefusals}
 use Rattle.form.specs.declared.Asked.{Asked}
 use Rattle.form.specs.declared.Form.{Form}
 use Rattle.form.specs.declared.Form.the-variants.{Asks, Refused}

@@ -3,7 +3,7 @@ use Prim.Native.Nat.{ℕ}
 use mathlib.Core.List.{List}
 use Rattle.words.specs.Refusal.{Refusal, first, unlessRefused}
 use Rattle.algorithm.specs.Actions.{Action, unknown, elect, reconfigure, send, spread, write, fetch, rollBack, commit, actionOf}
-use Rattle.algorithm.specs.Refusals.{formRefusals}
+use Rattle.algorithm.specs.Run.{formRefusals}
 use Rattle.form.specs.declared.Asked.{Asked}
 use Rattle.form.specs.declared.Asked.the-variants.{Elect, Reconfigure, Send, Spread, Write, Fetch, RollBack, Commit}
 use Rattle.form.specs.declared.Form.{Form}

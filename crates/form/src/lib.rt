@@ -2,7 +2,7 @@
 ghost use mathlib.Core.Path.{_≡_};
 ghost use lib.ListN.{length, getD};
 ghost use Rattle.algorithm.specs.Actions.{kindOf, iOf, jOf, setOf, usesSet, usesJ, unknown, kinds, actionOf};
-ghost use Rattle.algorithm.specs.Refusals.{strayZero, known, noAction, fieldRefusals};
+ghost use Rattle.algorithm.specs.Run.{strayZero, known, noAction, fieldRefusals};
 ghost use Rattle.words.specs.Refusal.{first};
 ghost use Rattle.form.specs.Form.{asks, formBy, formOf};
 use members::is_within;

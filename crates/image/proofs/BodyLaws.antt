@@ -11,15 +11,13 @@ use lib.Seq.{take-all, length-take-le}
 use borrow.Author.Tests.{le-leb, ne-eqb}
 use Rattle.words.specs.Lists.{nth, every, between, part}
 use Rattle.algorithm.specs.Table.{entry, entries, withLog, ceiling, positions, soundEntry, soundServer}
-use Rattle.table.specs.Figures.{figuresOf, figured}
+use Rattle.table.specs.Slice.{figuresOf, figured}
 use Rattle.table.specs.declared.figures.Figures.{Figures}
 use Rattle.words.specs.Words.{words, halfAt}
 use Rattle.words.proofs.WordLaws.{length-words}
 use Rattle.table.proofs.SoundLaws.{server-parts}
-use Rattle.image.specs.Contents.{countIn, offset, size, stop}
+use Rattle.image.specs.Contents.{countIn, offset, size, stop, body, serverIn, soundMarksBody, soundServerBody, soundAt, soundBodies, Names, Named, Sized}
 use Rattle.words.proofs.BelowLaws.{Tested}
-use Rattle.image.specs.Bodies.{body, serverIn, soundMarksBody, soundServerBody, soundAt, soundBodies}
-use Rattle.image.specs.Asked.{Names, Named, Sized}
 
 -- ---- the marks
 

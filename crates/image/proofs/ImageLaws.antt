@@ -8,9 +8,8 @@ use lib.ListN.{length, getD, take, drop, length-append, length-map}
 use lib.Seq.{getD-append-add, take-append-seam, drop-at}
 use Rattle.words.specs.Words.{half, halfAt}
 use Rattle.algorithm.specs.Table.{Table, absent, count}
-use Rattle.image.specs.Contents.{firstBody, offset, size, stop}
+use Rattle.image.specs.Contents.{firstBody, offset, size, stop, body}
 use Rattle.image.specs.Image.{opening, serverBody, bodies, contents, image}
-use Rattle.image.specs.Bodies.{body}
 
 -- a number of two bytes is read back
 pub half-back : (v : ℕ) → v < 65536 → v % 256 + 256 * (v / 256 % 256) ≡ v

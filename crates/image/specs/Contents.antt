@@ -1,12 +1,13 @@
--- The opening and the contents of any bytes, an image or not. Assumes nothing.
-use Prim.Native.Nat.{ℕ, zero, suc, _+_, _*_, _%_}
-use mathlib.Core.Bool.{Bool, _&&_}
+-- The opening, the contents and the bodies of any bytes, an image or not: what is read of them, and whether it keeps the rules. Assumes nothing.
+use Prim.Native.Nat.{ℕ, zero, suc, _+_, _*_, _%_, _≤_}
+use mathlib.Core.Bool.{Bool, _&&_, _||_}
 use mathlib.Core.List.{List}
 use lib.Dec.{leb, eqb}
-use lib.ListN.{length, getD}
-use Rattle.words.specs.Lists.{between, allBelow}
-use Rattle.words.specs.Words.{halfAt}
-use Rattle.algorithm.specs.Table.{positions, soundCount}
+use lib.ListN.{length, getD, drop}
+use Rattle.words.specs.Lists.{between, allBelow, nth, every, part}
+use Rattle.words.specs.Words.{halfAt, words}
+use Rattle.algorithm.specs.Table.{positions, soundCount, entries, Server, ceiling, soundServer}
+use Rattle.table.specs.Layout.{padded}
 
 -- ---- the opening
 
@@ -72,3 +73,56 @@ laid im e = eqb (offset im e) (start im e) && mayHave e (size im e) && leb (stop
 -- the contents are complete, and each entry is as it has to be
 unfoldable pub laidOut : List ℕ → Bool
 laidOut im = leb (firstBody (countIn im)) (length im) && allBelow (countIn im + 1) (laid im)
+
+-- the part of the input that entry e names
+abbrev pub body : List ℕ → ℕ → List ℕ
+body im e = part im (offset im e) (size im e)
+
+-- the marks of a body; positions beyond it have none
+abbrev pub marksIn : List ℕ → List ℕ
+marksIn b = padded positions (words b)
+
+-- the server of a body
+abbrev pub serverIn : List ℕ → Server
+serverIn b =
+    let w = words b in
+    record {
+      role = getD b 0 0;
+      term = getD w 1 0;
+      config = record { set = halfAt b 2; version = getD w 2 0; term = getD w 3 0 };
+      log = entries (drop 4 w);
+    }
+
+-- the marks keep the rules, and the last, where there is one, is not 0
+abbrev pub soundMarksBody : List ℕ → Bool
+soundMarksBody b = every (between 0 ceiling) (words b) && (eqb (length (words b)) 0 || leb 1 (nth (words b) (length (words b)) 0))
+
+-- the spare byte is 0, and the server keeps the rules of a table of n
+abbrev pub soundServerBody : ℕ → List ℕ → Bool
+soundServerBody n b = eqb (getD b 1 0) 0 && soundServer n (serverIn b)
+
+-- the fields of body e keep the rules
+abbrev pub soundAt : List ℕ → ℕ → Bool
+soundAt im zero = soundMarksBody (body im 0)
+soundAt im (suc s) = soundServerBody (countIn im) (body im (suc s))
+
+-- the fields of every body do
+unfoldable pub soundBodies : List ℕ → Bool
+soundBodies im = allBelow (countIn im + 1) (soundAt im)
+
+-- entry e is in the input, and names a part of it that is long enough for its body and not too long
+pub record Names (im : List ℕ) (e : ℕ) : Type 0 where
+  pub there : firstBody e ≤ length im
+  pub within : stop im e ≤ length im
+  pub least : fixed e ≤ size im e
+  pub most : size im e ≤ fixed e + 4 * positions
+
+-- the contents are in the input, and every entry is so
+pub record Named (im : List ℕ) : Type 0 where
+  pub complete : firstBody (countIn im) ≤ length im
+  pub each : (e : ℕ) → e ≤ countIn im → Names im e
+
+-- the part may be body e, by its length; every server's is as that of server 1
+pub record Sized (e : ℕ) (b : List ℕ) : Type 0 where
+  pub least : fixed e ≤ length b
+  pub most : length b ≤ fixed e + 4 * positions

@@ -2,9 +2,8 @@
 // sees nothing else.
 ghost use mathlib.Core.Path.{_≡_};
 ghost use Prim.Native.Nat.{_<_};
-ghost use Rattle.table.specs.Figures.{figuresOf};
-ghost use Rattle.image.specs.Bodies.{body, serverIn, soundMarksBody, soundServerBody, soundAt, soundBodies};
-ghost use Rattle.image.specs.Asked.{Names, Named, Sized};
+ghost use Rattle.table.specs.Slice.{figuresOf};
+ghost use Rattle.image.specs.Contents.{body, serverIn, soundMarksBody, soundServerBody, soundAt, soundBodies, Names, Named, Sized};
 use crate::contents::count_of;
 use crate::contents::offset_of;
 use crate::contents::stop_of;

@@ -5,8 +5,7 @@ use mathlib.Core.List.{List}
 use mathlib.Core.Path.{_≡_, sym, _∙_}
 use lib.ListN.{getD}
 use Rattle.algorithm.specs.declared.Reply.{Reply}
-use Rattle.algorithm.specs.Reply.{numberOf}
-use Rattle.algorithm.specs.Run.{step, runTo}
+use Rattle.algorithm.specs.Run.{numberOf, step, runTo}
 use Rattle.table.specs.Layout.{tableIn, whole}
 use Rattle.table.proofs.StoredLaws.{held-stored}
 use Rattle.engine.specs.Engine.{Ready, Stepped, played, Played, AllRefused}

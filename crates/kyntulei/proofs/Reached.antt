@@ -9,8 +9,7 @@ use lib.Dec.{T}
 use lib.ListN.{length, getD, take}
 use lib.Seq.{getD-append-seam, getD-append-add, getD-take}
 use borrow.Author.Tests.{ne-eqb}
-use Rattle.algorithm.specs.Table.{Table, server, primary, mark, broken, fresh}
-use Rattle.algorithm.specs.Comparisons.{held}
+use Rattle.algorithm.specs.Table.{Table, server, primary, mark, broken, fresh, held}
 use Rattle.algorithm.specs.Actions.{actionOf}
 use Rattle.words.specs.Refusal.{unlessRefused}
 use Rattle.algorithm.specs.Run.{step, pieces, play}
@@ -25,8 +24,7 @@ use Rattle.reader.proofs.ReplyLaws.{read-sized, kept-bytes}
 use Rattle.writer.specs.Writer.{WriteAnswer}
 use Rattle.writer.proofs.WriteTheorems.{read-saved}
 use Rattle.engine.specs.Engine.{played}
-use Rattle.kyntulei.specs.Promise.{FreshAnswer, freshReply, StepAnswer, stepReply, stepBytes, RunAnswer, runReplies, runBytes}
-use Rattle.kyntulei.specs.Reached.{Calls, none, stepped, ran, carried, unread, unfilled, Reached}
+use Rattle.kyntulei.specs.Promise.{FreshAnswer, freshReply, StepAnswer, stepReply, stepBytes, RunAnswer, runReplies, runBytes, Calls, none, stepped, ran, carried, unread, unfilled, Reached}
 use Rattle.kyntulei.proofs.Meaning.{filled-bytes, filled-sound, step-reply, step-bytes, run-replies, run-bytes}
 
 -- ---- calls from any table that breaks no rule

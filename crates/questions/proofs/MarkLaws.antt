@@ -13,8 +13,7 @@ use borrow.Author.Tests.{not-true}
 use Rattle.members.specs.Members.{passing}
 use Rattle.members.proofs.Masks.{and-both}
 use Rattle.words.specs.Lists.{nth, part}
-use Rattle.algorithm.specs.Table.{Table, count, server, mark, positions}
-use Rattle.algorithm.specs.Comparisons.{held}
+use Rattle.algorithm.specs.Table.{Table, count, server, mark, positions, held}
 use Rattle.algorithm.specs.Actions.{sameTerm, someMarked, holdsMarked, holdsCommitted, supportsAt}
 use Rattle.table.specs.Layout.{tableIn}
 use Rattle.table.specs.Slice.{Held}

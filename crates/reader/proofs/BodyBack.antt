@@ -17,8 +17,7 @@ use Rattle.words.proofs.WordLaws.{length-bytes, words-bytes, words-between}
 use Rattle.table.specs.Layout.{padded, terms}
 use Rattle.table.proofs.LayoutLaws.{entries-terms}
 use Rattle.table.proofs.SoundLaws.{words-log}
-use Rattle.image.specs.Contents.{figureBytes}
-use Rattle.image.specs.Bodies.{marksIn, serverIn, soundMarksBody, soundServerBody}
+use Rattle.image.specs.Contents.{figureBytes, marksIn, serverIn, soundMarksBody, soundServerBody}
 use Rattle.image.specs.Image.{marksBody, serverBody}
 use Rattle.image.proofs.ImageLaws.{half-back}
 

@@ -10,18 +10,14 @@ use Rattle.words.specs.Lists.{nth, replace}
 use Rattle.algorithm.specs.Table.{Config, entry, Log, entries, Server, Table, absent, server, withMarks, withServer, changed, withMark, withRole, withTerm, withConfig, withLog, withEntry, positions}
 use Rattle.words.specs.Words.{words}
 use Rattle.words.proofs.WordLaws.{length-words}
-use Rattle.table.specs.Figures.{figuresOf, figured}
+use Rattle.table.specs.Slice.{figuresOf, figured, Holds, Held, Became, Within, blank}
 use Rattle.table.specs.declared.figures.Figures.{Figures}
 use Rattle.table.specs.Layout.{padded, tableIn}
-use Rattle.table.specs.Slice.{Holds, Held, Became, Within, blank}
 use Rattle.words.proofs.Lists.{replace-nth, nth-replaced}
 use Rattle.table.proofs.HeldLaws.{its-table, held, again}
-use Rattle.image.specs.Contents.{countIn}
-use Rattle.image.specs.Bodies.{body, marksIn, serverIn}
-use Rattle.image.specs.Asked.{Names, Named, Sized}
+use Rattle.image.specs.Contents.{countIn, body, marksIn, serverIn, Names, Named, Sized}
 use Rattle.image.proofs.BodyLaws.{length-rest}
-use Rattle.reader.specs.Reader.{serversTo, readTable}
-use Rattle.reader.specs.Filling.{unread}
+use Rattle.reader.specs.Reader.{serversTo, readTable, unread}
 
 -- one change after another
 onward : {b b₁ b₂ : List ℕ} {t : Table} (f : Table → Table) → Became b b₁ t → Became b₁ b₂ (f (tableIn b₁)) → Became b b₂ (f t)

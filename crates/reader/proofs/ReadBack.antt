@@ -5,7 +5,7 @@ use mathlib.Core.Path.{_≡_, refl, ap, sym, subst, _∙_}
 use mathlib.Core.Bool.{false, _&&_}
 use mathlib.Core.List.{List, [], _∷_, _++_, map, flatten}
 use lib.Dec.{leb, eqb}
-use lib.ListN.{length, getD, take, length-append, length-map, List·getD-map}
+use lib.ListN.{length, getD, take, length-append, List·getD-map}
 use lib.Seq.{take-suc, take-length, take-all}
 use borrow.Author.Tests.{le-ltb, eq-eqb}
 use Rattle.words.specs.Refusal.{first}
@@ -20,9 +20,8 @@ use Rattle.table.specs.Layout.{tableBytes}
 use Rattle.table.proofs.SoundLaws.{marks-sound}
 use Rattle.table.proofs.HeldLaws.{roomy-at}
 use Rattle.table.proofs.StoredLaws.{its-shape}
-use Rattle.image.specs.Contents.{firstBody, figureBytes, opened, counted, offset, size, stop, start, mayHave, laid, laidOut}
+use Rattle.image.specs.Contents.{firstBody, figureBytes, counted, offset, size, stop, start, mayHave, laid, laidOut, body, marksIn, serverIn, soundMarksBody, soundServerBody, soundAt, soundBodies}
 use Rattle.image.specs.Image.{marksBody, serverBody, bodies, image}
-use Rattle.image.specs.Bodies.{body, marksIn, serverIn, soundMarksBody, soundServerBody, soundAt, soundBodies}
 use Rattle.reader.specs.Reader.{serversTo, readReply, readTable, readEnd}
 use Rattle.words.proofs.BelowLaws.{below-all}
 use Rattle.image.proofs.ImageLaws.{flatten-most, place, joined, many, length-image, image-joined, its-offset, its-size, its-stop, its-body}

@@ -16,10 +16,8 @@ use Rattle.table.specs.Layout.{tableBytes, stored}
 use Rattle.table.specs.Slice.{Holds}
 use Rattle.table.proofs.StoredLaws.{held-stored}
 use Rattle.image.specs.Contents as Contents
-use Rattle.image.specs.Contents.{countIn, counted, offset, size, stop, firstBody, start, laid, laidOut}
-use Rattle.image.specs.Bodies.{soundBodies}
+use Rattle.image.specs.Contents.{countIn, counted, offset, size, stop, firstBody, start, laid, laidOut, soundBodies, Names, Named}
 use Rattle.reader.specs.Reader.{readRefusals, readReply, readTable, readEnd, readBytes, endAfter}
-use Rattle.image.specs.Asked.{Names, Named}
 use Rattle.words.proofs.BelowLaws.{all-below}
 
 -- ---- the refusals one by one

@@ -13,8 +13,7 @@ use Rattle.algorithm.proofs.Sound.{SoundTable}
 use Rattle.words.specs.Words.{words}
 use Rattle.table.specs.Layout.{padded}
 use Rattle.table.proofs.LayoutLaws.{length-padded}
-use Rattle.image.specs.Contents.{countIn}
-use Rattle.image.specs.Bodies.{body, serverIn, soundAt, soundBodies}
+use Rattle.image.specs.Contents.{countIn, body, serverIn, soundAt, soundBodies}
 use Rattle.reader.specs.Reader.{serversTo, readReply, readTable}
 use Rattle.words.proofs.BelowLaws.{all-below}
 use Rattle.reader.proofs.FillLaws.{length-servers}

@@ -1,3 +1,2 @@
 -- The reader of images. In the order to read: its replies, the table while it is filled.
 pub mod Reader
-pub mod Filling

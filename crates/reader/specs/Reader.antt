@@ -1,15 +1,15 @@
--- The reader: its refusals, and what it gives where none holds. Assumes nothing.
+-- The reader: its refusals, what it gives where none holds, and the table while it is filled. Assumes nothing.
 use Prim.Native.Nat.{ℕ, zero, suc}
 use mathlib.Core.Bool.{not}
 use mathlib.Core.Path.{_≡_}
 use mathlib.Core.List.{List, [], _∷_, _++_}
 use lib.Dec.{ltb, eqb}
 use lib.ListN.{length}
-use Rattle.algorithm.specs.Table.{Server, Table}
 use Rattle.words.specs.Refusal.{Refusal, refuse, first, unlessRefused}
+use Rattle.algorithm.specs.Table.{Server, Table, withMarks}
 use Rattle.table.specs.Layout.{tableBytes, stored}
-use Rattle.image.specs.Contents.{opened, countIn, counted, stop, laidOut}
-use Rattle.image.specs.Bodies.{body, marksIn, serverIn, soundBodies}
+use Rattle.table.specs.Slice.{blank}
+use Rattle.image.specs.Contents.{opened, countIn, counted, stop, laidOut, body, marksIn, serverIn, soundBodies}
 
 -- the refusals for an image and the slice that a table is to be read into
 abbrev pub readRefusals : List ℕ → List ℕ → List Refusal
@@ -52,3 +52,7 @@ pub record ReadAnswer (im slice : List ℕ) (e r : ℕ) (slice' : List ℕ) (e' 
   pub reply : r ≡ readReply im slice
   pub bytes : slice' ≡ readBytes im slice
   pub end : e' ≡ endAfter im slice e
+
+-- the table read, but for its servers, of which nothing is known yet
+unfoldable pub unread : List ℕ → Table
+unread im = withMarks (marksIn (body im 0)) (blank (countIn im))

@@ -1,7 +1,7 @@
 // The reader of a table's image (specs/Image.antt): judged on the image alone, and only then is the slice written.
 ghost use mathlib.Core.Path.{_≡_};
 ghost use Rattle.reader.specs.Reader.{readReply, readEnd, ReadAnswer};
-ghost use Rattle.image.specs.Asked.{Named};
+ghost use Rattle.image.specs.Contents.{Named};
 use crate::fill::fill;
 use image::bodies::are_sound;
 use image::contents::count_of;

@@ -18,15 +18,11 @@ use Rattle.reader.specs.Reader.{readReply, readTable, ReadAnswer}
 use Rattle.reader.proofs.ReplyLaws.{read-into, read-upto}
 use Rattle.reader.proofs.ReadTheorems.{not-broken, read-whole, read-within}
 use Rattle.buffer.specs.Buffer.{Wrote, WroteShort}
-use Rattle.report.specs.Lines.{badSiteLine, tooLongLine}
-use Rattle.report.specs.Lines.{badSiteRoom}
-use Rattle.report.specs.Report.{playedLines}
+use Rattle.report.specs.Lines.{badSiteLine, tooLongLine, badSiteRoom, playedLines}
 use Rattle.rehearsal.specs.declared.Opened.{Opened}
 use Rattle.rehearsal.specs.declared.Opened.the-variants as opened
 use Rattle.rehearsal.specs.declared.Saved.the-variants as stream
-use Rattle.rehearsal.specs.Printed.{longest, siteReply, faultLine, planOf, inputLines, printed}
-use Rattle.rehearsal.specs.Opening.{Refused, Playable, OpenAnswer}
-use Rattle.rehearsal.specs.Saved.{Written, toOutput, toError, saved, bytesOf, answerOf, SaveAnswer}
+use Rattle.rehearsal.specs.Programs.{longest, siteReply, faultLine, planOf, inputLines, printed, Refused, Playable, OpenAnswer, Written, toOutput, toError, saved, bytesOf, answerOf, SaveAnswer}
 
 -- ---- the input is opened
 

@@ -17,12 +17,10 @@ use Rattle.algorithm.specs.Run.{pieces, pieceCount, Ran, play, run}
 use Rattle.algorithm.proofs.Runs.{play-sound, play-append}
 use Rattle.algorithm.proofs.Demands.{not-given-24}
 use Rattle.image.specs.Image.{image}
-use Rattle.buffer.specs.Texts.{text, digits, decimal, field, fields}
-use Rattle.buffer.specs.Buffer.{Wrote}
-use Rattle.report.specs.Lines.{reply, repliedLine, cutLine, tooLongLine, letter, shownRow, rowLine, marksLine}
-use Rattle.report.specs.Report.{numbered, repliedLines, rowLines, tableLines, wholeActions, cutLines, playedLines}
+use Rattle.buffer.specs.Buffer.{text, digits, decimal, field, fields, Wrote}
+use Rattle.report.specs.Lines.{reply, repliedLine, cutLine, tooLongLine, letter, shownRow, rowLine, marksLine, numbered, repliedLines, rowLines, tableLines, wholeActions, cutLines, playedLines}
 use Rattle.report.proofs.OrderLaws.{flatten-append}
-use Rattle.rehearsal.specs.Printed.{longest, inputLines, printed}
+use Rattle.rehearsal.specs.Programs.{longest, inputLines, printed}
 use Rattle.rehearsal.proofs.PrintedTheorems.{image-lines}
 
 -- ---- bytes in which something does not occur

@@ -21,15 +21,12 @@ use Rattle.walk.proofs.Laws.{action-found, cut-found, end-found}
 use Rattle.engine.specs.Engine.{played, Ready, Played}
 use Rattle.image.specs.Image.{image, longestImage}
 use Rattle.image.proofs.LongestImage.{image-most}
-use Rattle.writer.specs.Written.{Savable}
-use Rattle.writer.specs.Writer.{imageOf}
+use Rattle.writer.specs.Writer.{Savable, imageOf}
 use Rattle.writer.proofs.WriteLaws.{savable}
 use Rattle.buffer.specs.Buffer.{Wrote, WroteShort}
-use Rattle.report.specs.Lines.{repliedLine, cutLine}
-use Rattle.report.specs.Report.{repliedLines, cutLines, tableLines, wholeActions, playedLines}
-use Rattle.report.specs.Lines.{repliedRoom, cutRoom, tableRoom}
+use Rattle.report.specs.Lines.{repliedLine, cutLine, repliedLines, cutLines, tableLines, wholeActions, playedLines, repliedRoom, cutRoom, tableRoom}
 use Rattle.report.proofs.OrderLaws.{no-lines, one-line, more-lines, Lined, lined-more}
-use Rattle.rehearsal.specs.Printed.{longest, mostPieces}
+use Rattle.rehearsal.specs.Programs.{longest, mostPieces}
 
 -- ---- replies
 

@@ -17,10 +17,10 @@ use Rattle.image.specs.Image.{contents, image}
 use Rattle.reader.specs.Reader.{readTable}
 use Rattle.reader.proofs.ReadBack.{end-back}
 use Rattle.reader.proofs.ReadTheorems.{read-back}
-use Rattle.report.specs.Report.{playedLines}
+use Rattle.report.specs.Lines.{playedLines}
 use Rattle.report.specs.Case.{plan, given, expected}
 use Rattle.report.proofs.Worked.{case-holds}
-use Rattle.rehearsal.specs.Printed.{longest, siteReply, faulty, planOf, inputLines}
+use Rattle.rehearsal.specs.Programs.{longest, siteReply, faulty, planOf, inputLines}
 
 -- An input that begins with the image of a table is played: that table and the bytes behind its image are found in it.
 pub image-opened : (t : Table) (p : List ℕ) → broken t ≡ false → length (image t ++ p) ≤ longest

@@ -12,11 +12,10 @@ use Rattle.image.specs.Image.{image}
 use Rattle.buffer.specs.Buffer.{Wrote}
 use Rattle.buffer.proofs.WroteLaws.{wrote-within}
 use Rattle.buffer.proofs.WroteUnique.{wrote-unique}
-use Rattle.report.specs.Report.{playedLines}
+use Rattle.report.specs.Lines.{playedLines}
 use Rattle.rehearsal.specs.declared.Saved.{Saved}
 use Rattle.rehearsal.specs.declared.Saved.the-variants.{Image, Told}
-use Rattle.rehearsal.specs.Printed.{longest, inputLines}
-use Rattle.rehearsal.specs.Saved.{Written, toOutput, toError, saved, onOutput, onError, bytesOf, answerOf, SaveAnswer, sentOutput, sentError}
+use Rattle.rehearsal.specs.Programs.{longest, inputLines, Written, toOutput, toError, saved, onOutput, onError, bytesOf, answerOf, SaveAnswer, sentOutput, sentError}
 use Rattle.rehearsal.proofs.PrintedTheorems.{image-opened, image-lines}
 
 -- Two answers that meet the contract for one input and one buffer are the same answer.

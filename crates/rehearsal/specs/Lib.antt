@@ -1,4 +1,2 @@
 -- What the programs make of their whole input. In the order to read: what `rehearse` prints, what `save` writes, what both find first.
-pub mod Printed
-pub mod Saved
-pub mod Opening
+pub mod Programs

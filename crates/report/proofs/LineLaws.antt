@@ -8,10 +8,8 @@ use borrow.Author.Tests.{eq-eqb, ne-eqb}
 use Rattle.algorithm.specs.Table.{positions, trimmed}
 use Rattle.table.specs.declared.rows.Row.{Row}
 use Rattle.table.proofs.MarkLaws.{trimmed-take}
-use Rattle.buffer.specs.Texts.{text, decimal, numberRoom, field, fieldRoom, fields}
-use Rattle.report.specs.Lines.{reply, repliedLine, cutLine, badSiteLine, tooLongLine, letter, figures, shownRow, marksLine}
-use Rattle.report.specs.Lines.{repliedRoom, cutRoom, badSiteRoom, rowRoom, marksLineRoom}
-use Rattle.buffer.specs.Buffer.{Wrote, WroteShort}
+use Rattle.buffer.specs.Buffer.{text, decimal, numberRoom, field, fieldRoom, fields, Wrote, WroteShort}
+use Rattle.report.specs.Lines.{reply, repliedLine, cutLine, badSiteLine, tooLongLine, letter, figures, shownRow, marksLine, repliedRoom, cutRoom, badSiteRoom, rowRoom, marksLineRoom}
 use Rattle.buffer.proofs.WroteLaws.{exact, then-short}
 
 -- ---- parts of a line

@@ -11,8 +11,7 @@ use Rattle.words.specs.Lists.{nth}
 use Rattle.algorithm.specs.Table.{positions, mark}
 use Rattle.table.specs.Layout.{tableIn}
 use Rattle.table.specs.Slice.{Held}
-use Rattle.buffer.specs.Texts.{field, fieldRoom, fields}
-use Rattle.buffer.specs.Buffer.{WroteShort}
+use Rattle.buffer.specs.Buffer.{field, fieldRoom, fields, WroteShort}
 use Rattle.buffer.proofs.FieldLaws.{one-field, more-fields}
 
 module _ (t : List ℕ) (h : Held t) where

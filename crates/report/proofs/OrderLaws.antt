@@ -14,9 +14,7 @@ use Rattle.table.specs.Slice.{Held, seen}
 use Rattle.table.specs.declared.rows.Row.{Row}
 use Rattle.buffer.specs.Buffer.{WroteShort}
 use Rattle.buffer.proofs.WroteLaws.{wrote-none, sized, then-short}
-use Rattle.report.specs.Lines.{shownRow, rowLine, marksLine}
-use Rattle.report.specs.Report.{numbered, rowLines, tableLines}
-use Rattle.report.specs.Lines.{rowRoom, marksLineRoom, tableRoom}
+use Rattle.report.specs.Lines.{shownRow, rowLine, marksLine, numbered, rowLines, tableLines, rowRoom, marksLineRoom, tableRoom}
 
 pub flatten-append : (l m : List (List ℕ)) → flatten (l ++ m) ≡ flatten l ++ flatten m
 unfolding flatten

@@ -5,12 +5,10 @@ use Rattle.members.specs.Members.{mask}
 use Rattle.words.specs.Lists.{nth, replace, every}
 use Rattle.algorithm.specs.Table.{trimmed, broken}
 use Rattle.algorithm.specs.Actions.{votersFrom, someMarked, holdsMarked}
-use Rattle.algorithm.specs.Refusals.{refusals}
+use Rattle.algorithm.specs.Run.{refusals, after, step, pieces, play}
 use Rattle.words.specs.Refusal.{first}
-use Rattle.algorithm.specs.Run.{after, step, pieces, play}
-use Rattle.buffer.specs.Texts.{digits, decimal, field, fields}
-use Rattle.report.specs.Lines.{reply, repliedLine, letter, shownRow, marksLine}
-use Rattle.report.specs.Report.{numbered, tableLines, cutLines, playedLines}
+use Rattle.buffer.specs.Buffer.{digits, decimal, field, fields}
+use Rattle.report.specs.Lines.{reply, repliedLine, letter, shownRow, marksLine, numbered, tableLines, cutLines, playedLines}
 use Rattle.report.specs.Case.{given, expected}
 
 pub case-holds : given ≡ expected

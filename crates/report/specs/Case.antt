@@ -4,8 +4,8 @@ use Prim.Native.String.{String}
 use mathlib.Core.List.{List, [], _∷_, _++_, map}
 use Rattle.algorithm.specs.Table.{fresh}
 use Rattle.algorithm.specs.Cases.{actionBytes}
-use Rattle.buffer.specs.Texts.{text}
-use Rattle.report.specs.Report.{playedLines}
+use Rattle.buffer.specs.Buffer.{text}
+use Rattle.report.specs.Lines.{playedLines}
 
 -- the case's nine actions: kind, i, j and the set of each
 abbrev pub plan : List ℕ

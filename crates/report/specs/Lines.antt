@@ -1,12 +1,14 @@
--- The lines that `rehearse` prints, as bytes. Assumes nothing.
-use Prim.Native.Nat.{ℕ, zero, suc, _+_, _*_}
+-- The lines that `rehearse` prints, as bytes: one by one, and those of a table and its actions in order. Assumes nothing.
+use Prim.Native.Nat.{ℕ, zero, suc, _+_, _*_, _-_, _/_, _%_}
 use mathlib.Core.Bool.{cond}
 use mathlib.Core.List.{List, [], _∷_, _++_}
 use lib.Dec.{eqb}
-use Rattle.algorithm.specs.Table.{Server, positions, mostServers, trimmed}
+use lib.ListN.{length, take}
+use Rattle.algorithm.specs.Table.{Server, positions, mostServers, trimmed, Table}
+use Rattle.algorithm.specs.Run.{run}
 use Rattle.table.specs.Slice.{seen}
 use Rattle.table.specs.declared.rows.Row.{Row}
-use Rattle.buffer.specs.Texts.{text, numberRoom, decimal, fieldRoom, field, fields}
+use Rattle.buffer.specs.Buffer.{text, numberRoom, decimal, fieldRoom, field, fields}
 
 -- ---- lines on actions
 
@@ -80,3 +82,34 @@ marksLineRoom = 5 + fieldRoom * positions + 1
 -- all lines of a table
 abbrev pub tableRoom : ℕ
 tableRoom = rowRoom * mostServers + marksLineRoom
+
+-- a line for each thing in a list, the first of which has the number k
+unfoldable pub numbered : {A : Type 0} → (ℕ → A → List ℕ) → ℕ → List A → List (List ℕ)
+numbered line k [] = []
+numbered line k (a ∷ rest) = line k a ∷ numbered line (suc k) rest
+
+-- the lines of replies
+abbrev pub repliedLines : List ℕ → List (List ℕ)
+repliedLines rs = numbered repliedLine 1 rs
+
+-- the lines of servers
+abbrev pub rowLines : List Server → List (List ℕ)
+rowLines ss = numbered rowLine 1 ss
+
+-- the lines of the last table
+unfoldable pub tableLines : Table → List (List ℕ)
+tableLines t = rowLines (t .servers) ++ (marksLine (t .marks) ∷ [])
+
+-- the bytes of the whole actions
+abbrev pub wholeActions : List ℕ → List ℕ
+wholeActions p = take (length p - length p % 8) p
+
+-- a line for what stands behind the whole actions, if anything does: it is counted as the next action
+unfoldable pub cutLines : List ℕ → List (List ℕ)
+cutLines p = cond (eqb (length p % 8) 0) [] (cutLine (length p / 8 + 1) ∷ [])
+
+-- the whole actions are played on the table: their replies, what is left over, the table that is left
+unfoldable pub playedLines : Table → List ℕ → List (List ℕ)
+playedLines t p =
+    let r = run t (wholeActions p) in
+    repliedLines (r .replies) ++ (cutLines p ++ tableLines (r .table))

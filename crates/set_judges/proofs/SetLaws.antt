@@ -7,8 +7,7 @@ use mathlib.Core.List.{[], _∷_}
 use lib.Dec.{eqb, ltb}
 use lib.ListN.{length}
 use Rattle.members.specs.Members.{oneApart, majority, passing, allPass, somePass}
-use Rattle.algorithm.specs.Table.{Log, Table, count, server, mark}
-use Rattle.algorithm.specs.Comparisons.{last}
+use Rattle.algorithm.specs.Table.{Log, Table, count, server, mark, last}
 use Rattle.algorithm.specs.Actions.{largerTerm, newerConfig, logAhead, sameTerm, someMarked, holdsCommitted, q1, q2, p1, supportsAt}
 use Rattle.questions.specs.declared.votes.Objections.{Objections}
 use Rattle.questions.specs.declared.shares.Shares.{Shares}

@@ -7,7 +7,7 @@ use lib.Dec.{leb, eqb}
 use Rattle.members.specs.Members.{within}
 use Rattle.words.specs.Lists.{every, between}
 use Rattle.algorithm.specs.Table.{ceiling, soundServer}
-use Rattle.table.specs.Figures.{figured}
+use Rattle.table.specs.Slice.{figured}
 use Rattle.table.specs.declared.figures.Figures.{Figures}
 
 pub figures-tell : (f : Figures) (n : ℕ) (w : Bool) → w ≡ within (f .set) n

@@ -7,7 +7,7 @@ use lib.ListN.{length, getD, set, length-set}
 use Rattle.words.proofs.Tests.{Passes}
 use Rattle.words.specs.Lists.{nth, replace}
 use Rattle.algorithm.specs.Table.{Server, Table, count, absent, server, withServer, changed, withServers}
-use Rattle.algorithm.specs.Refusals.{known}
+use Rattle.algorithm.specs.Run.{known}
 use Rattle.words.proofs.Lists.{length-replace, replace-nth, nth-replaced, replace-replace}
 use Rattle.algorithm.proofs.Seen.{known-range}
 use Rattle.words.specs.Words.{words, Put}

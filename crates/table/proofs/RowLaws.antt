@@ -8,8 +8,7 @@ use mathlib.Core.List.{List, [], _∷_, _++_}
 use lib.ListN.{length, getD, set, take, length-append, length-take, List·getD-map}
 use lib.Seq.{length-take-le}
 use Rattle.words.specs.Lists.{nth, replace}
-use Rattle.algorithm.specs.Table.{Entry, entry, Log, Server, Table, count, server, termAt, mark, changed, withMark, withRole, withTerm, withConfig, withEntry, withoutLast}
-use Rattle.algorithm.specs.Comparisons.{last}
+use Rattle.algorithm.specs.Table.{Entry, entry, Log, Server, Table, count, server, termAt, mark, changed, withMark, withRole, withTerm, withConfig, withEntry, withoutLast, last}
 use Rattle.words.proofs.Lists.{length-replace}
 use Rattle.words.specs.Words.{words, Put}
 use Rattle.table.specs.Layout.{padded, terms, row, head, layout, tableIn}

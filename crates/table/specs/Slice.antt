@@ -1,14 +1,29 @@
--- What the functions ask and promise of a slice that holds a table. Assumes nothing.
+-- A server's figures by value, and what the functions ask and promise of a slice that holds a table. Assumes nothing.
 use Prim.Native.Nat.{ℕ, _≤_, _<_}
 use mathlib.Core.Path.{_≡_}
 use mathlib.Core.List.{List, [], _∷_}
 use lib.ListN.{length, replicate}
-use Rattle.algorithm.specs.Table.{Server, Table, count, absent, positions, mostServers}
-use Rattle.algorithm.specs.Comparisons.{last}
 use Rattle.words.specs.Words.{words}
+use Rattle.algorithm.specs.Table.{configOf, Log, Server, absent, withRole, withTerm, withConfig, withLog, Table, count, positions, mostServers, last}
+use Rattle.table.specs.declared.figures.Figures.{Figures}
 use Rattle.table.specs.Layout.{tableBytes, layout, tableIn}
-use Rattle.table.specs.Figures.{figuresOf}
 use Rattle.table.specs.declared.rows.Row.{Row}
+
+-- the figures of a server: all but its log
+abbrev pub figuresOf : Server → Figures
+figuresOf s =
+    record {
+      role = s .role;
+      term = record { 0 = s .term };
+      set = s .config .set;
+      version = record { 0 = s .config .version };
+      config = record { 0 = s .config .term };
+    }
+
+-- the server with these figures and this log
+abbrev pub figured : Figures → Log → Server
+figured f l =
+    withRole (f .role) (withTerm (f .term .0) (withConfig (configOf (f .set) (f .version .0) (f .config .0)) (withLog l absent)))
 
 -- a log of n entries has room in a row, and the set m in 16 bits
 pub record Room (n m : ℕ) : Type 0 where
@@ -61,5 +76,5 @@ seen s =
     record {
       figures = figuresOf s;
       length = record { 0 = lib.ListN.length (s .log) };
-      last = record { 0 = Rattle.algorithm.specs.Comparisons.last (s .log) };
+      last = record { 0 = Rattle.algorithm.specs.Table.last (s .log) };
     }

@@ -2,7 +2,7 @@
 ghost use mathlib.Core.Path.{_≡_};
 ghost use mathlib.Core.List.{[]};
 ghost use Rattle.algorithm.specs.Table.{soundServer};
-ghost use Rattle.table.specs.Figures.{figured};
+ghost use Rattle.table.specs.Slice.{figured};
 use algorithm::CEILING;
 use algorithm::PRIMARY;
 use algorithm::SECONDARY;

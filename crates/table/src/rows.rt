@@ -2,8 +2,7 @@
 ghost use mathlib.Core.Path.{_≡_};
 ghost use Prim.Native.Nat.{_≤_, _<_};
 ghost use lib.ListN.{length, getD};
-ghost use Rattle.algorithm.specs.Table.{entry, count, server, termAt, mark, changed, withMark, withRole, withTerm, withConfig, withEntry, withoutLast, positions};
-ghost use Rattle.algorithm.specs.Comparisons.{last};
+ghost use Rattle.algorithm.specs.Table.{entry, count, server, termAt, mark, changed, withMark, withRole, withTerm, withConfig, withEntry, withoutLast, positions, last};
 ghost use Rattle.table.specs.Layout.{rowWords, row, tableIn};
 ghost use Rattle.table.specs.Slice.{Held, Became, Within, seen};
 use crate::figures::Figures;

@@ -13,8 +13,7 @@ use ghost.Atoms.{Atoms, sem}
 use contract.Lifetimes.{Lfts}
 use contract.Monad.{Fun, fact, factI, top}
 use contract.Running.{Running, GhostRules, givenOf, tables, tablesOf}
-use types.Kit.{Given, Item, Goal, Post, Seq, Step, Sq, prop, runs, lands, ‵, raw, _⊛_, some, given, later, ⋆, step, _$_, _∵_, !, qed}
-use types.Kit.{by, move, drop, use1, use2, split, join, learn, pick, fsplit, fjoin, frame, show, await, updating, now, done}
+use types.Kit.{Given, Item, Goal, Post, Seq, Step, Sq, prop, runs, lands, ‵, raw, _⊛_, some, given, later, ⋆, step, _$_, _∵_, !, qed, by, move, drop, use1, use2, split, join, learn, pick, fsplit, fjoin, frame, show, await, updating, now, done}
 use types.Run.{Opds}
 use sound.WpLaws.{FmC, fmOf, WpFn-mono}
 use denote.RattleType.{RattleType, Denots, Valss, mirs, flat, owns}

@@ -9,7 +9,7 @@ use lib.Seq.{getD-drop, drop-drop}
 use borrow.Author.Tests.{le-leb, lt-leb}
 use Rattle.words.specs.Lists.{every, between, part}
 use Rattle.algorithm.specs.Table.{withLog, ceiling, soundServer}
-use Rattle.table.specs.Figures.{figured}
+use Rattle.table.specs.Slice.{figured}
 use Rattle.table.specs.declared.figures.Figures.{Figures}
 use Rattle.table.specs.Layout.{serverOf}
 use Rattle.whole.specs.Check.{soundRow, soundRows, soundWords}

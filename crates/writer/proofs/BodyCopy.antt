@@ -16,8 +16,7 @@ use Rattle.words.proofs.WordLaws.{length-words, bytes-words}
 use Rattle.table.specs.Layout.{padded}
 use Rattle.table.proofs.LayoutLaws.{padded-is}
 use Rattle.whole.proofs.WholeLaws.{terms-entries}
-use Rattle.image.specs.Contents.{figureBytes}
-use Rattle.image.specs.Bodies.{marksIn, serverIn, soundMarksBody}
+use Rattle.image.specs.Contents.{figureBytes, marksIn, serverIn, soundMarksBody}
 use Rattle.image.specs.Image.{marksBody, serverBody}
 
 -- ---- lists of bytes

@@ -2,7 +2,7 @@
 use Prim.Native.Nat.{ℕ, zero, suc, _+_, _-_, _*_, _/_, _%_, _≤_, _<_}
 use native.Mathlib.Nat.{div-div-eq-div-mul}
 use native.Mathlib.Omega.{arith}
-use mathlib.Core.Path.{_≡_, refl, ap, sym, _∙_}
+use mathlib.Core.Path.{_≡_, refl, ap}
 use mathlib.Core.List.{List, [], _∷_, _++_}
 use lib.ListN.{length, getD, take, drop, List·getD-map}
 use lib.Seq.{take-take, drop-drop, drop-at}
@@ -10,11 +10,10 @@ use Rattle.algorithm.specs.Table.{Server, Table, absent, server, positions, tri
 use Rattle.words.specs.Lists.{nth}
 use Rattle.words.specs.Words.{half, words, bytes}
 use Rattle.words.proofs.WordLaws.{length-bytes, bytes-words}
-use Rattle.table.specs.Figures.{figured}
+use Rattle.table.specs.Slice.{figured, Held, Within, seen}
 use Rattle.table.specs.declared.figures.Figures.{Figures}
 use Rattle.table.specs.declared.rows.Row.{Row}
 use Rattle.table.specs.Layout.{rowWords, tableBytes, terms, row, layout, tableIn}
-use Rattle.table.specs.Slice.{Held, Within, seen}
 use Rattle.table.proofs.LayoutLaws.{log-terms, marks-back}
 use Rattle.table.proofs.HeldLaws.{its-room, frame, open-row}
 use Rattle.table.proofs.MarkLaws.{trimmed-take}
@@ -23,7 +22,7 @@ use Rattle.buffer.proofs.WroteLaws.{then}
 use Rattle.image.specs.Contents.{figureBytes}
 use Rattle.image.specs.Image.{marksBody, serverBody}
 use Rattle.reader.proofs.BodyBack.{length-body}
-use Rattle.writer.specs.Written.{bodyOf, Savable}
+use Rattle.writer.specs.Writer.{bodyOf, Savable}
 
 -- ---- numbers
 

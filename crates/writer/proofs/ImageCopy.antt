@@ -1,5 +1,5 @@
 -- An image that is read is written again as it was. Assumes nothing.
-use Prim.Native.Nat.{ℕ, zero, suc, _+_, _*_, _/_, _%_, _≤_, _<_}
+use Prim.Native.Nat.{ℕ, zero, suc, _+_, _*_, _/_, _≤_, _<_}
 use native.Mathlib.Decide.{decLt}
 use native.Mathlib.Numerals.{add-one}
 use native.Mathlib.Omega.{arith}
@@ -12,9 +12,8 @@ use lib.Seq.{take-all, take-add, getD-drop, getD-at, length-take-le}
 use Rattle.words.proofs.Tests.{Passes, both, equal, three}
 use Rattle.algorithm.specs.Table.{absent}
 use Rattle.words.specs.Words.{half}
-use Rattle.image.specs.Contents.{firstBody, countIn, offset, size, start}
+use Rattle.image.specs.Contents.{firstBody, countIn, offset, size, start, body, serverIn, soundAt, soundBodies}
 use Rattle.words.proofs.BelowLaws.{all-below}
-use Rattle.image.specs.Bodies.{body, serverIn, soundAt, soundBodies}
 use Rattle.image.specs.Image.{opening, serverBody, bodies, contents, image}
 use Rattle.reader.specs.Reader.{readReply, serversTo, readTable, readEnd}
 use Rattle.reader.proofs.FillLaws.{length-servers}

@@ -15,7 +15,7 @@ use Rattle.buffer.proofs.WroteLaws.{wrote-none, sized, then, part, part-wrote}
 use Rattle.image.specs.Contents.{firstBody, figureBytes}
 use Rattle.image.specs.Image.{opening, serverBody, bodies, contents, image}
 use Rattle.image.proofs.ImageLaws.{flatten-more, flatten-most, length-contents, place, many, length-image}
-use Rattle.writer.specs.Written.{bodyOf, Savable}
+use Rattle.writer.specs.Writer.{bodyOf, Savable}
 
 -- ---- one entry more
 

@@ -17,8 +17,7 @@ use Rattle.algorithm.proofs.Sound.{server-sound, table-sound}
 use Rattle.table.specs.Layout.{tableIn, whole}
 use Rattle.whole.proofs.Determined.{whole-held, whole-sound}
 use Rattle.buffer.specs.Buffer.{Wrote}
-use Rattle.writer.specs.Written.{Savable}
-use Rattle.writer.specs.Writer.{imageOf, writeReply, WriteAnswer}
+use Rattle.writer.specs.Writer.{Savable, imageOf, writeReply, WriteAnswer}
 
 -- ---- a whole table
 

@@ -1,3 +1,2 @@
 -- The writer of a table's image. In the order to read: what it answers, the bodies that it writes.
 pub mod Writer
-pub mod Written

@@ -1,8 +1,7 @@
 -- `rehearsal::put_replies` meets its contract. The invariant: the lines of the first k replies are put. Assumes nothing.
 use Prim.Native.Nat.{_-_, _≤_}
 use borrow.Author.Needs.{needs}
-use Rattle.report.specs.Lines.{repliedLine}
-use Rattle.report.specs.Lines.{repliedRoom}
+use Rattle.report.specs.Lines.{repliedLine, repliedRoom}
 use Rattle.report.proofs.OrderLaws.{Lined, lined-none, lined-all}
 use Rattle.rehearsal.proofs.PlayedLaws.{replies-more}
 use Rattle.rehearsal.proofs.put_replies.Statement.{statement}

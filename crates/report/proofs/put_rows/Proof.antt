@@ -2,8 +2,7 @@
 use Prim.Native.Nat.{_-_, _≤_}
 use borrow.Author.Needs.{needs}
 use Rattle.table.specs.Layout.{tableIn}
-use Rattle.report.specs.Lines.{rowLine}
-use Rattle.report.specs.Lines.{rowRoom}
+use Rattle.report.specs.Lines.{rowLine, rowRoom}
 use Rattle.report.proofs.OrderLaws.{Lined, lined-none, rows-more, rows-all}
 use Rattle.report.proofs.put_rows.Statement.{statement}
 use Rattle.report.proofs.put_rows.Tie as tie

@@ -1,7 +1,7 @@
 -- `image::bodies::are_sound` meets its contract. Assumes nothing.
 use borrow.Author.Needs.{needs}
 use Prim.Native.Nat.{_+_, _-_, _≤_}
-use Rattle.image.specs.Bodies.{soundAt}
+use Rattle.image.specs.Contents.{soundAt}
 use Rattle.words.proofs.BelowLaws.{Tested, tested-none, tested-more}
 use Rattle.image.proofs.BodyLaws.{name-at, bodies-tell}
 use Rattle.image.proofs.bodies.are_sound.Statement.{statement}

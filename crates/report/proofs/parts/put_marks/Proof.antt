@@ -4,8 +4,7 @@ use mathlib.Core.Path.{_≡_}
 use borrow.Author.Needs.{needs}
 use lib.ListN.{length, take}
 use Rattle.table.specs.Layout.{tableIn}
-use Rattle.buffer.specs.Texts.{fieldRoom, fields}
-use Rattle.buffer.specs.Buffer.{WroteShort}
+use Rattle.buffer.specs.Buffer.{fieldRoom, fields, WroteShort}
 use Rattle.buffer.proofs.FieldLaws.{no-fields}
 use Rattle.report.proofs.MarkLaws.{marks-more, marks-all}
 use Rattle.report.proofs.parts.put_marks.Statement.{statement}

@@ -3,8 +3,7 @@ use Prim.Native.Nat.{ℕ, _+_, _≤_}
 use mathlib.Core.Path.{_≡_}
 use lib.ListN.{length, getD}
 use borrow.Author.Needs.{needs}
-use Rattle.algorithm.specs.Table.{Server}
-use Rattle.algorithm.specs.Comparisons.{last}
+use Rattle.algorithm.specs.Table.{Server, last}
 use Rattle.algorithm.specs.declared.Term.{Term}
 use Rattle.algorithm.specs.declared.Version.{Version}
 use Rattle.algorithm.specs.declared.Position.{Position}

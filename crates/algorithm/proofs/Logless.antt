@@ -8,8 +8,7 @@ use mathlib.Core.Path.{_≡_}
 use lib.Dec.{T}
 use Rattle.members.specs.Members.{member, Member, Majority, MajoritiesMeet, All, Most}
 use Rattle.words.specs.Lists.{put}
-use Rattle.algorithm.specs.Table.{Server, Table, absent, server, withConfig, withLog, freshServer}
-use Rattle.algorithm.specs.Comparisons.{newer}
+use Rattle.algorithm.specs.Table.{Server, Table, absent, server, withConfig, withLog, freshServer, newer}
 use Rattle.algorithm.specs.Actions.{steppedDown, winner, nextConfig}
 
 -- the servers by their numbers n; their logs are not looked at
