@@ -9,8 +9,7 @@ use lib.Dec.{T}
 use lib.ListN.{getD}
 use mir.Facts.{eqb-yes}
 use Rattle.algorithm.specs.Table.{Table, server, primary, termAt, mark, fresh, held}
-use Rattle.algorithm.specs.Run.{step, pieces, play, runTo}
-use Rattle.algorithm.specs.Demand.{wonBy, wonAlong, termsWon, Rising}
+use Rattle.algorithm.specs.Run.{step, pieces, play, runTo, wonBy, wonAlong, Rising}
 use Rattle.algorithm.proofs.Logless as logless
 use Rattle.algorithm.proofs.Logless.{core, Moves, none, then}
 use Rattle.algorithm.proofs.Logs.{HasEntry}
@@ -94,7 +93,7 @@ module _ (n M : ℕ) (plan : List ℕ) (k : ℕ) where
   abbrev pub end : Table
   end = runTo k (fresh n M) plan .table
 
-  pub terms-rise : Rising 0 (termsWon k (fresh n M) plan)
+  pub terms-rise : Rising 0 (wonAlong (fresh n M) (pieces k plan))
   terms-rise = won-rise n M (pieces k plan)
 
   pub never-24 : (j : ℕ) → getD (runTo k (fresh n M) plan .replies) j 0 ≢ 24

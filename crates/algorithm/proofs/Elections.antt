@@ -9,7 +9,7 @@ use Rattle.members.proofs.Masks.{member-some}
 use Rattle.members.proofs.Majorities.{same-set}
 use Rattle.algorithm.specs.Table.{Config, freshServer, absent}
 use Rattle.algorithm.specs.Actions.{winner}
-use Rattle.algorithm.specs.Demand.{Rising}
+use Rattle.algorithm.specs.Run.{Rising}
 use Rattle.algorithm.proofs.Logless.{State, elect, reconfigure, send, spread, after, voted, Move, rests, takes, Moves, none, then, Fresh}
 use Rattle.words.proofs.Choice.{put-same}
 use Rattle.algorithm.proofs.Invariant.{Reaches, Has, here, Leads, Active, Inv}

@@ -6,7 +6,8 @@ use mathlib.Core.Logic.{_⊎_}
 use mathlib.Core.Path.{_≡_}
 use lib.Dec.{T}
 use lib.ListN.{length, take}
-use Rattle.members.specs.Members.{All, Majority, Most}
+use Rattle.members.specs.Members.{Majority}
+use Rattle.members.proofs.Said.{All, Most}
 use Rattle.algorithm.specs.Table.{entry, Log, entryAt, termAt, last, ahead}
 use Rattle.algorithm.proofs.Logless as logless
 use Rattle.algorithm.proofs.Logless.{State}

@@ -7,7 +7,7 @@ use mathlib.Core.Path.{_≡_, refl, sym, ap, _∙_, subst}
 use native.Mathlib.Decide.{decLe}
 use native.Mathlib.Omega.{arith}
 use lib.ListN.{length}
-use Rattle.members.specs.Members.{Most, Hits}
+use Rattle.members.proofs.Said.{Most, Hits}
 use Rattle.members.proofs.Majorities.{most-hits, most-and-hits, most-map, hits-map}
 use Rattle.algorithm.specs.Table.{Config, Entry, Log, termAt}
 use Rattle.algorithm.proofs.Logless.{State, Action, Allowed, after}

@@ -15,8 +15,7 @@ use Rattle.algorithm.specs.Table.{Table, count, broken}
 use Rattle.words.specs.Lists.{every}
 use Rattle.words.specs.Refusal.{first}
 use Rattle.algorithm.specs.Actions.{Action, unknown, elect, reconfigure, send, spread, write, fetch, rollBack, commit, kinds, kindOf, iOf, jOf, setOf, usesSet, usesJ, actionOf}
-use Rattle.algorithm.specs.Run.{known, commonRefusals, ownRefusals, refusals, after, step}
-use Rattle.algorithm.specs.Demand.{wins, wonBy}
+use Rattle.algorithm.specs.Run.{known, commonRefusals, ownRefusals, refusals, after, step, wins, wonBy}
 
 -- ---- the numbers of an action's refusals
 

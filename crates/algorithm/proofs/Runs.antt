@@ -12,8 +12,7 @@ use lib.Seq.{take-append-le, drop-append-le, drop-drop}
 use Rattle.words.proofs.Tests.{Fails, fails-false, false-fails, neither, one-refuted, equal, unequal}
 use Rattle.algorithm.specs.Table.{Table, broken, server, mark}
 use Rattle.algorithm.specs.Actions.{Action, unknown, elect, reconfigure, send, spread, write, fetch, rollBack, commit, actionOf}
-use Rattle.algorithm.specs.Run.{after, step, pieces, pieceCount, Ran, play, runTo, run}
-use Rattle.algorithm.specs.Demand.{wonBy, wonAlong}
+use Rattle.algorithm.specs.Run.{after, step, pieces, pieceCount, Ran, play, runTo, run, wonBy, wonAlong}
 use Rattle.words.proofs.Choice.{put-elim}
 use Rattle.words.proofs.Lists.{nth-replace}
 use Rattle.algorithm.proofs.Refused.{Taken, outcome}

@@ -9,7 +9,7 @@ use native.Mathlib.Nat.{eq-zero-or-pos}
 use native.Mathlib.Omega.{arith}
 use lib.Dec.{T}
 use lib.ListN.{length, take}
-use Rattle.members.specs.Members.{Most, Hits}
+use Rattle.members.proofs.Said.{Most, Hits}
 use Rattle.members.proofs.Majorities.{most-hits, most-map}
 use Rattle.algorithm.specs.Table.{Config, Entry, Log, entryAt, termAt, last, ahead}
 use Rattle.algorithm.proofs.Logless as logless

@@ -16,8 +16,7 @@ use Rattle.words.specs.Lists.{nth, put}
 use Rattle.words.specs.Refusal.{refuse}
 use Rattle.algorithm.specs.Table.{Log, Server, Table, count, server, primary, entry, entryAt, mark, withConfig, withEntry, withLog, positions, newer, last, held, prefix}
 use Rattle.algorithm.specs.Actions.{Action, elect, reconfigure, commit, send, spread, fetch, rollBack, write, unknown, actionOf, steppedDown, voted, winner, electAfter, someMarked, holdsMarked, p1, markedOtherwise, nextConfig, reconfigureAfter, sendAfter, spreadAfter, writeAfter, fetchAfter, rollBackAfter, entryRefusals, commitAfter}
-use Rattle.algorithm.specs.Run.{known, after, step}
-use Rattle.algorithm.specs.Demand.{wins, wonBy}
+use Rattle.algorithm.specs.Run.{known, after, step, wins, wonBy}
 use Rattle.algorithm.proofs.Logless as logless
 use Rattle.algorithm.proofs.Logless.{core}
 use Rattle.words.proofs.Lists.{nth-replace}

@@ -1,5 +1,5 @@
--- The refusals of an action, the reply to it, and a run of actions. The enum `Reply` stands in src/lib.rt. Assumes nothing.
-use Prim.Native.Nat.{ℕ, zero, suc, _+_, _/_}
+-- The refusals of an action, the reply to it, a run of actions, and the words of demand 3. The enum `Reply` stands in src/lib.rt. Assumes nothing.
+use Prim.Native.Nat.{ℕ, zero, suc, _+_, _/_, _<_}
 use mathlib.Core.Bool.{Bool, not, _||_, _&&_}
 use mathlib.Core.List.{List, [], _∷_, _++_}
 use lib.Dec.{eqb}
@@ -9,7 +9,7 @@ use Rattle.words.specs.Refusal.{Refusal, refuse, first, unlessRefused}
 use Rattle.members.specs.Members.{within}
 use Rattle.algorithm.specs.declared.Reply.{Reply}
 use Rattle.algorithm.specs.declared.Reply.the-variants.{Taken, Refused}
-use Rattle.algorithm.specs.Table.{Table, count, broken}
+use Rattle.algorithm.specs.Table.{Table, count, broken, server}
 use Rattle.algorithm.specs.Actions.{byte, kindOf, iOf, jOf, setOf, usesSet, usesJ, Action, unknown, elect, reconfigure, send, spread, write, fetch, rollBack, commit, actionOf, electRefusals, reconfigureRefusals, sendRefusals, spreadRefusals, writeRefusals, fetchRefusals, rollBackRefusals, commitRefusals, electAfter, reconfigureAfter, sendAfter, spreadAfter, writeAfter, fetchAfter, rollBackAfter, commitAfter}
 
 -- 0 for taken, and a refusal's own number
@@ -34,9 +34,9 @@ strayZero bs = stray (byte bs 3) || stray (byte bs 6) || stray (byte bs 7)
 abbrev pub known : ℕ → ℕ → Bool
 known n i = between 1 n i
 
--- 2: the bytes are not eight, or their kind is none of the eight
-abbrev pub noAction : List ℕ → Bool
-noAction bs = not (eqb (length bs) 8) || not (between 1 8 (kindOf bs))
+-- k is the number of none of the eight kinds
+abbrev pub unknownKind : ℕ → Bool
+unknownKind k = not (between 1 8 k)
 
 -- 3 to 5 of the kind k, beside a table of n servers; z tells whether a zero byte is not 0
 abbrev pub fieldRefusals : ℕ → Bool → ℕ → ℕ → ℕ → ℕ → List Refusal
@@ -48,7 +48,9 @@ fieldRefusals n z k i j M =
 
 -- 2 to 5
 abbrev pub formRefusals : ℕ → List ℕ → List Refusal
-formRefusals n bs = refuse 2 (noAction bs) ∷ fieldRefusals n (strayZero bs) (kindOf bs) (iOf bs) (jOf bs) (setOf bs)
+formRefusals n bs =
+    refuse 2 (not (eqb (length bs) 8) || unknownKind (kindOf bs))
+    ∷ fieldRefusals n (strayZero bs) (kindOf bs) (iOf bs) (jOf bs) (setOf bs)
 
 -- 1 to 5
 abbrev pub commonRefusals : Table → List ℕ → List Refusal
@@ -122,3 +124,29 @@ runTo k t p = play t (pieces k p)
 -- the run of the whole plan
 abbrev pub run : Table → List ℕ → Ran
 run t p = runTo (pieceCount p) t p
+
+-- the term that an action wins where it is taken: for an election i's term + 1, for any other kind none
+abbrev pub wins : Table → Action → List ℕ
+wins t unknown = []
+wins t (elect i q) = (server t i .term + 1) ∷ []
+wins t (reconfigure i m) = []
+wins t (send i j) = []
+wins t (spread i j) = []
+wins t (write i) = []
+wins t (fetch i j) = []
+wins t (rollBack i j) = []
+wins t (commit i q) = []
+
+-- the term that a step wins: none where it is refused
+unfoldable pub wonBy : Table → List ℕ → List ℕ
+wonBy t a = unlessRefused (step t a .number) (wins t (actionOf a)) []
+
+-- the terms won by actions one after another
+unfoldable pub wonAlong : Table → List (List ℕ) → List ℕ
+wonAlong t [] = []
+wonAlong t (a ∷ rest) = wonBy t a ++ wonAlong (step t a .table) rest
+
+-- b < u₁ < u₂ < ..
+abbrev pub Rising : ℕ → List ℕ → Type 0
+Rising b [] = Unit {0}
+Rising b (u ∷ us) = (b < u) × Rising u us

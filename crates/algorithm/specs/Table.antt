@@ -51,9 +51,13 @@ pub record Table : Type 0 where
 abbrev pub count : Table → ℕ
 count t = length (t .servers)
 
+-- the server of these
+abbrev pub serverWith : ℕ → ℕ → Config → Log → Server
+serverWith r T C l = record { role = r; term = T; config = C; log = l }
+
 -- what stands for a server that is not in the table
 abbrev pub absent : Server
-absent = record { role = 0; term = 0; config = configOf 0 0 0; log = [] }
+absent = serverWith 0 0 (configOf 0 0 0) []
 
 -- server i
 abbrev pub server : Table → ℕ → Server
@@ -103,19 +107,19 @@ withMark t p v = withMarks (replace (t .marks) p v) t
 
 -- the server with the role v
 abbrev pub withRole : ℕ → Server → Server
-withRole v s = record { role = v; term = s .term; config = s .config; log = s .log }
+withRole v s = serverWith v (s .term) (s .config) (s .log)
 
 -- the server with the term T
 abbrev pub withTerm : ℕ → Server → Server
-withTerm T s = record { role = s .role; term = T; config = s .config; log = s .log }
+withTerm T s = serverWith (s .role) T (s .config) (s .log)
 
 -- the server with the configuration C
 abbrev pub withConfig : Config → Server → Server
-withConfig C s = record { role = s .role; term = s .term; config = C; log = s .log }
+withConfig C s = serverWith (s .role) (s .term) C (s .log)
 
 -- the server with the log l
 abbrev pub withLog : Log → Server → Server
-withLog l s = record { role = s .role; term = s .term; config = s .config; log = l }
+withLog l s = serverWith (s .role) (s .term) (s .config) l
 
 -- the server with the entry e behind its log
 abbrev pub withEntry : Entry → Server → Server
@@ -172,7 +176,7 @@ broken t = not (soundCount (count t) && every (soundServer (count t)) (t .server
 
 -- a server before any action, with the set M
 abbrev pub freshServer : ℕ → Server
-freshServer M = withConfig (configOf M 1 0) absent
+freshServer M = serverWith 0 0 (configOf M 1 0) []
 
 -- n such servers, and no marks; where n is not 1 to 16, or M is empty or not within n, this table is broken
 abbrev pub fresh : ℕ → ℕ → Table

@@ -1,74 +1,84 @@
 -- What the bytes of an action tell of its form. Assumes nothing.
 use Prim.Native.Nat.{ℕ, zero, suc, _≤_}
-use native.Mathlib.Decide.{decLe}
 use native.Mathlib.Omega.{arith}
-use mathlib.Core.Path.{_≡_, refl, sym, ap, _∙_}
-use mathlib.Core.Bool.{Bool, true, false, cond, not, _&&_}
+use mathlib.Core.Path.{_≡_, refl, sym, ap, subst, _∙_}
+use mathlib.Core.Bool.{Bool, true, false, cond, _&&_}
 use mathlib.Core.List.{List}
 use lib.Dec.{eqb, leb}
-use lib.ListN.{length, getD, List·getD-eq-default}
+use lib.ListN.{length, getD}
 use borrow.Author.Tests.{eq-eqb, ne-eqb, eqb-true}
 use mir.Facts.{eqb-no}
-use Rattle.words.specs.Lists.{every, allBelow}
-use Rattle.words.specs.Refusal.{first}
-use Rattle.words.proofs.Tests.{Passes, both, both-refuted, false-fails, equal, at-most}
+use Rattle.words.specs.Lists.{every, between, allBelow}
+use Rattle.words.specs.Refusal.{Refusal, first}
+use Rattle.words.proofs.Tests.{Passes, both, both-refuted, false-fails, at-most}
 use Rattle.words.proofs.BelowLaws.{all-below}
 use Rattle.words.proofs.RefusalLaws.{none-hold}
-use Rattle.algorithm.specs.Actions.{kindOf, iOf, jOf, setOf, Action, unknown, elect, reconfigure, send, spread, write, fetch, rollBack, commit, kinds, actionOf}
-use Rattle.algorithm.specs.Run.{strayZero, noAction, fieldRefusals, formRefusals}
+use Rattle.algorithm.specs.Actions.{kindOf, iOf, jOf, setOf, usesSet, usesJ, Action, unknown, elect, reconfigure, send, spread, write, fetch, rollBack, commit, kinds, actionOf}
+use Rattle.algorithm.specs.Run.{strayZero, unknownKind, formRefusals}
 use Rattle.form.specs.declared.Asked.{Asked}
+use Rattle.form.specs.declared.Fields.{Fields}
 use Rattle.form.specs.declared.Form.{Form}
 use Rattle.form.specs.declared.Form.the-variants.{Asks, Refused}
-use Rattle.form.specs.Form.{named, asks, formBy, formOf}
+use Rattle.form.specs.Form.{named, asks, formBy, formOf, fieldsOf, actionBy, refusalsOf, eightRefusals}
 
--- ---- refusal 2
+-- ---- eight bytes
 
-pub other-length : (a : List ℕ) → (length a ≡ 8 → ⊥) → true ≡ noAction a
-other-length a n = rw (ne-eqb (length a) 8 n)
-
-pub eight-bytes : (a : List ℕ) → length a ≡ 8 → not (leb 1 (kindOf a) && leb (kindOf a) 8) ≡ noAction a
-eight-bytes a e = rw (eq-eqb (length a) 8 e)
-
-module _ (n : ℕ) (a : List ℕ) (r : Bool) (e : r ≡ noAction a) where
-  pub known-length : r ≡ false → length a ≡ 8
-  known-length o = equal (both-refuted {a = eqb (length a) 8} {b = leb 1 (kindOf a) && leb (kindOf a) 8} (false-fails (sym e ∙ o)) .0)
-
-  pub no-action : r ≡ true → Refused 2 ≡ formOf n a
+module _ (n : ℕ) (a : List ℕ) where
+  pub other-length : (length a ≡ 8 → ⊥) → Refused 2 ≡ formOf n a
   unfolding first
-  no-action o = rw (sym e ∙ o)
+  other-length o = rw (ne-eqb (length a) 8 o)
 
-  pub an-action : (f : Form) → r ≡ false
-      → f ≡ formBy (fieldRefusals n (strayZero a) (kindOf a) (iOf a) (jOf a) (setOf a)) (actionOf a) → f ≡ formOf n a
+  pub eight-bytes : (f : Fields) (r : Form) → length a ≡ 8 → f ≡ fieldsOf a → r ≡ formBy (eightRefusals n f) (asks (actionBy f)) → r ≡ formOf n a
   unfolding first
-  an-action f o h = rw (sym e ∙ o) h
+  eight-bytes f r o e h =
+      rw (eq-eqb (length a) 8 o) (subst (λ (g : Fields). r ≡ formBy (eightRefusals n g) (asks (actionBy g))) e h)
+
+pub fields-read : (a : List ℕ) (m : ℕ) → m ≡ setOf a
+    → _≡_ {A = Fields} (record { kind = kindOf a; i = iOf a; j = jOf a; set = m; stray = strayZero a }) (fieldsOf a)
+fields-read a m e = rw e
 
 -- ---- refusals 3 to 5
 
-module _ (n : ℕ) (a : List ℕ) (z : Bool) (m k : ℕ) (zeros : z ≡ strayZero a) (set : m ≡ setOf a)
-    (judged : k ≡ first (fieldRefusals n z (kindOf a) (iOf a) (jOf a) m)) where
-  pub refused-fields : (k ≡ 0 → ⊥) → Refused k ≡ formBy (fieldRefusals n (strayZero a) (kindOf a) (iOf a) (jOf a) (setOf a)) (actionOf a)
-  refused-fields o = rw (← zeros, ← set, ← judged, ne-eqb k 0 o)
+module _ (rs : List Refusal) (k : ℕ) (f : Form) (judged : k ≡ first rs) where
+  pub refused-form : (k ≡ 0 → ⊥) → Refused k ≡ formBy rs f
+  refused-form o = rw (← judged, ne-eqb k 0 o)
 
-  pub asked-fields : (f : Form) → k ≡ 0 → f ≡ asks (getD (kinds (iOf a) (jOf a) m) (kindOf a) unknown)
-      → f ≡ formBy (fieldRefusals n (strayZero a) (kindOf a) (iOf a) (jOf a) (setOf a)) (actionOf a)
-  asked-fields f o h = rw (← zeros, ← set, ← judged, eq-eqb k 0 o) h
+  pub asked-form : k ≡ 0 → f ≡ formBy rs f
+  asked-form o = rw (← judged, eq-eqb k 0 o)
 
 -- ---- the kind
 
-pub of-kind : (x k i j m : ℕ) (f : Form) → k ≡ x → f ≡ asks (getD (kinds i j m) x unknown) → f ≡ asks (getD (kinds i j m) k unknown)
-of-kind x k i j m f e h = rw e h
+module _ (k x : ℕ) (b : Bool) (e : k ≡ x) where
+  pub uses-j : b ≡ usesJ x → b ≡ usesJ k
+  uses-j h = rw e h
+
+  pub uses-set : b ≡ usesSet x → b ≡ usesSet k
+  uses-set h = rw e h
+
+pub of-kind : (x n : ℕ) (f : Fields) (r : Form) → f .kind ≡ x → unknownKind x ≡ false
+    → r ≡ formBy (refusalsOf n f) (asks (getD (kinds (f .i) (f .j) (f .set)) x unknown)) → r ≡ formBy (eightRefusals n f) (asks (actionBy f))
+unfolding first
+of-kind x n f r e known h =
+    let here : unknownKind (f .kind) ≡ false = rw e known in
+    let same : actionBy f ≡ getD (kinds (f .i) (f .j) (f .set)) x unknown = rw e in
+    rw (here, same) h
 
 past : {n k : ℕ} → n ≤ k → (k ≡ n → ⊥) → suc n ≤ k
 past l h = omega arith
 
-pub no-kind : (k i j m : ℕ) → (k ≡ 1 → ⊥) → (k ≡ 2 → ⊥) → (k ≡ 3 → ⊥) → (k ≡ 4 → ⊥) → (k ≡ 5 → ⊥) → (k ≡ 6 → ⊥) → (k ≡ 7 → ⊥)
-    → (k ≡ 8 → ⊥) → Refused 2 ≡ asks (getD (kinds i j m) k unknown)
-no-kind k i j m n₁ n₂ n₃ n₄ n₅ n₆ n₇ n₈ = go (decLe 1 k)
+pub no-kind : (n : ℕ) (f : Fields) → (f .kind ≡ 1 → ⊥) → (f .kind ≡ 2 → ⊥) → (f .kind ≡ 3 → ⊥) → (f .kind ≡ 4 → ⊥) → (f .kind ≡ 5 → ⊥)
+    → (f .kind ≡ 6 → ⊥) → (f .kind ≡ 7 → ⊥) → (f .kind ≡ 8 → ⊥) → Refused 2 ≡ formBy (eightRefusals n f) (asks (actionBy f))
+unfolding first
+no-kind n f n₁ n₂ n₃ n₄ n₅ n₆ n₇ n₈ = go (between 1 8 (f .kind)) refl
   where
-    go : Dec (1 ≤ k) → Refused 2 ≡ asks (getD (kinds i j m) k unknown)
-    go (yes l) =
-        rw (List·getD-eq-default (kinds i j m) unknown (past (past (past (past (past (past (past (past l n₁) n₂) n₃) n₄) n₅) n₆) n₇) n₈))
-    go (no l) = let z : k ≡ 0 = omega arith in rw z
+    go : (b : Bool) → between 1 8 (f .kind) ≡ b → Refused 2 ≡ formBy (eightRefusals n f) (asks (actionBy f))
+    go false e = rw e
+    go true e =
+        let (least, most) = both {a = leb 1 (f .kind)} {b = leb (f .kind) 8} (record { yes = rw e tt }) in
+        let from : 1 ≤ f .kind = at-most least in
+        let to : f .kind ≤ 8 = at-most most in
+        let beyond : 9 ≤ f .kind = past (past (past (past (past (past (past (past from n₁) n₂) n₃) n₄) n₅) n₆) n₇) n₈ in
+        absurd (omega arith)
 
 -- ---- what a form tells
 

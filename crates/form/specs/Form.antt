@@ -1,11 +1,13 @@
 -- What the bytes of an action ask: one of the eight actions, or a refusal by its number. Assumes nothing.
 use Prim.Native.Nat.{ℕ}
-use mathlib.Core.List.{List}
-use Rattle.words.specs.Refusal.{Refusal, first, unlessRefused}
-use Rattle.algorithm.specs.Actions.{Action, unknown, elect, reconfigure, send, spread, write, fetch, rollBack, commit, actionOf}
-use Rattle.algorithm.specs.Run.{formRefusals}
+use mathlib.Core.List.{List, _∷_}
+use lib.ListN.{getD}
+use Rattle.words.specs.Refusal.{Refusal, refuse, first, unlessRefused}
+use Rattle.algorithm.specs.Actions.{kindOf, iOf, jOf, setOf, Action, unknown, elect, reconfigure, send, spread, write, fetch, rollBack, commit, kinds, actionOf}
+use Rattle.algorithm.specs.Run.{strayZero, unknownKind, fieldRefusals, formRefusals}
 use Rattle.form.specs.declared.Asked.{Asked}
 use Rattle.form.specs.declared.Asked.the-variants.{Elect, Reconfigure, Send, Spread, Write, Fetch, RollBack, Commit}
+use Rattle.form.specs.declared.Fields.{Fields}
 use Rattle.form.specs.declared.Form.{Form}
 use Rattle.form.specs.declared.Form.the-variants.{Asks, Refused}
 
@@ -32,10 +34,28 @@ asks (fetch i j) = Asks (Fetch i j)
 asks (rollBack i j) = Asks (RollBack i j)
 asks (commit i Q) = Asks (Commit i Q)
 
--- the first of the refusals where one holds, and otherwise what the action asks
-abbrev pub formBy : List Refusal → Action → Form
-formBy rs a = unlessRefused (first rs) (asks a) (Refused (first rs))
+-- the first of the refusals where one holds, and f otherwise
+abbrev pub formBy : List Refusal → Form → Form
+formBy rs f = unlessRefused (first rs) f (Refused (first rs))
 
 -- what the bytes ask, beside a table of n servers
 abbrev pub formOf : ℕ → List ℕ → Form
-formOf n bs = formBy (formRefusals n bs) (actionOf bs)
+formOf n bs = formBy (formRefusals n bs) (asks (actionOf bs))
+
+-- ---- the code's struct
+
+-- the fields that the bytes have
+abbrev pub fieldsOf : List ℕ → Fields
+fieldsOf bs = record { kind = kindOf bs; i = iOf bs; j = jOf bs; set = setOf bs; stray = strayZero bs }
+
+-- the action that the fields name
+abbrev pub actionBy : Fields → Action
+actionBy f = getD (kinds (f .i) (f .j) (f .set)) (f .kind) unknown
+
+-- 3 to 5 of the fields
+abbrev pub refusalsOf : ℕ → Fields → List Refusal
+refusalsOf n f = fieldRefusals n (f .stray) (f .kind) (f .i) (f .j) (f .set)
+
+-- 2 to 5 of the fields of eight bytes
+abbrev pub eightRefusals : ℕ → Fields → List Refusal
+eightRefusals n f = refuse 2 (unknownKind (f .kind)) ∷ refusalsOf n f

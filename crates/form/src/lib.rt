@@ -1,14 +1,14 @@
 // An action read from its bytes, once: what is asked of a table of n servers, or why the bytes ask for nothing.
 ghost use mathlib.Core.Path.{_≡_};
-ghost use lib.ListN.{length, getD};
-ghost use Rattle.algorithm.specs.Actions.{kindOf, iOf, jOf, setOf, usesSet, usesJ, unknown, kinds, actionOf};
-ghost use Rattle.algorithm.specs.Run.{strayZero, known, noAction, fieldRefusals};
+ghost use lib.ListN.{length};
+ghost use Rattle.algorithm.specs.Actions.{usesSet, usesJ};
+ghost use Rattle.algorithm.specs.Run.{known};
 ghost use Rattle.words.specs.Refusal.{first};
-ghost use Rattle.form.specs.Form.{asks, formBy, formOf};
+ghost use Rattle.form.specs.Form.{fieldsOf, refusalsOf, eightRefusals, asks, actionBy, formBy, formOf};
 use members::is_within;
 use words::half;
 
-// The eight actions: of servers, i before j; of a server and a set.
+// The eight actions, as document 01 names them: server i, and behind it server j or the set.
 pub enum Asked {
     Elect(usize, u16),
     Reconfigure(usize, u16),
@@ -26,16 +26,27 @@ pub enum Form {
     Refused(u8),
 }
 
-fn uses_set(kind: u8) -> bool
-    ensures { λ r. ⌜ r ≡ usesSet kind ⌝ }
-{
-    (kind == 1) | (kind == 2) | (kind == 8)
+// The bytes by their places; `stray` tells whether one of the zero bytes is not 0.
+struct Fields {
+    kind: u8,
+    i: u8,
+    j: u8,
+    set: u16,
+    stray: bool,
 }
 
-fn uses_j(kind: u8) -> bool
-    ensures { λ r. ⌜ r ≡ usesJ kind ⌝ }
+fn fields_in(a: &[u8]) -> Fields
+    requires { ⌜ length (now a) ≡ 8 ⌝ }
+    ensures { λ r. ⌜ r ≡ fieldsOf (now (a .entry)) ⌝ }
 {
-    (kind == 3) | (kind == 4) | (kind == 6) | (kind == 7)
+    let set = half(a, 4);
+    Fields {
+        kind: a[0],
+        i: a[1],
+        j: a[2],
+        set: set,
+        stray: (a[3] != 0) | (a[6] != 0) | (a[7] != 0),
+    }
 }
 
 fn is_known(n: u8, i: u8) -> bool
@@ -44,80 +55,64 @@ fn is_known(n: u8, i: u8) -> bool
     (1 <= i) & (i <= n)
 }
 
-fn has_stray(a: &[u8]) -> bool
-    requires { ⌜ length (now a) ≡ 8 ⌝ }
-    ensures { λ r. ⌜ r ≡ strayZero (now (a .entry)) ⌝ }
+// Refusals 3 to 5 of a kind that uses two servers, or a set, or neither.
+fn judge_fields(n: u8, f: Fields, two: bool, set: bool) -> u8
+    requires { ⌜ two ≡ usesJ (f .kind) ⌝ }
+    requires { ⌜ set ≡ usesSet (f .kind) ⌝ }
+    ensures { λ r. ⌜ r ≡ first (refusalsOf n f) ⌝ }
 {
-    (a[3] != 0) | (a[6] != 0) | (a[7] != 0)
-}
-
-fn is_no_action(a: &[u8]) -> bool
-    ensures { λ r. ⌜ r ≡ noAction (now (a .entry)) ⌝ }
-{
-    if a.len() != 8 {
-        return true;
-    }
-    let kind = a[0];
-    !((1 <= kind) & (kind <= 8))
-}
-
-// Refusals 3 to 5.
-fn judge_fields(n: u8, stray: bool, kind: u8, i: u8, j: u8, m: u16) -> u8
-    ensures { λ r. ⌜ r ≡ first (fieldRefusals n stray kind i j m) ⌝ }
-{
-    let pair = uses_j(kind);
-    let set = uses_set(kind);
-    if stray | (!pair & (j != 0)) | (!set & (m != 0)) {
+    if f.stray | (!two & (f.j != 0)) | (!set & (f.set != 0)) {
         return 3;
     }
-    if !is_known(n, i) | (pair & !is_known(n, j)) {
+    if !is_known(n, f.i) | (two & !is_known(n, f.j)) {
         return 4;
     }
-    if set & !is_within(m as u32, n) {
+    if set & !is_within(f.set as u32, n) {
         return 5;
     }
     0
 }
 
-fn by_kind(kind: u8, i: u8, j: u8, m: u16) -> Form
-    ensures { λ r. ⌜ r ≡ asks (getD (kinds i j m) kind unknown) ⌝ }
+// x is asked, unless a field speaks against it.
+fn unless_refused(n: u8, f: Fields, two: bool, set: bool, x: Asked) -> Form
+    requires { ⌜ two ≡ usesJ (f .kind) ⌝ }
+    requires { ⌜ set ≡ usesSet (f .kind) ⌝ }
+    ensures { λ r. ⌜ r ≡ formBy (refusalsOf n f) (Form.Asks x) ⌝ }
 {
-    let i = i as usize;
-    let j = j as usize;
-    match kind {
-        1 => Form::Asks(Asked::Elect(i, m)),
-        2 => Form::Asks(Asked::Reconfigure(i, m)),
-        3 => Form::Asks(Asked::Send(i, j)),
-        4 => Form::Asks(Asked::Spread(i, j)),
-        5 => Form::Asks(Asked::Write(i)),
-        6 => Form::Asks(Asked::Fetch(i, j)),
-        7 => Form::Asks(Asked::RollBack(i, j)),
-        8 => Form::Asks(Asked::Commit(i, m)),
-        _ => Form::Refused(2),
-    }
-}
-
-fn read_fields(n: u8, a: &[u8]) -> Form
-    requires { ⌜ length (now a) ≡ 8 ⌝ }
-    ensures { λ r. ⌜ r ≡ formBy (fieldRefusals n (strayZero (now (a .entry))) (kindOf (now (a .entry))) (iOf (now (a .entry))) (jOf (now (a .entry))) (setOf (now (a .entry)))) (actionOf (now (a .entry))) ⌝ }
-{
-    let kind = a[0];
-    let i = a[1];
-    let j = a[2];
-    let m = half(a, 4);
-    let k = judge_fields(n, has_stray(a), kind, i, j, m);
+    let k = judge_fields(n, f, two, set);
     if k != 0 {
         return Form::Refused(k);
     }
-    by_kind(kind, i, j, m)
+    Form::Asks(x)
+}
+
+// The kind is looked at first, so that each is judged by no more than the fields that it has.
+fn by_kind(n: u8, f: Fields) -> Form
+    ensures { λ r. ⌜ r ≡ formBy (eightRefusals n f) (asks (actionBy f)) ⌝ }
+{
+    let kind = f.kind;
+    let i = f.i as usize;
+    let j = f.j as usize;
+    let m = f.set;
+    match kind {
+        1 => unless_refused(n, f, false, true, Asked::Elect(i, m)),
+        2 => unless_refused(n, f, false, true, Asked::Reconfigure(i, m)),
+        3 => unless_refused(n, f, true, false, Asked::Send(i, j)),
+        4 => unless_refused(n, f, true, false, Asked::Spread(i, j)),
+        5 => unless_refused(n, f, false, false, Asked::Write(i)),
+        6 => unless_refused(n, f, true, false, Asked::Fetch(i, j)),
+        7 => unless_refused(n, f, true, false, Asked::RollBack(i, j)),
+        8 => unless_refused(n, f, false, true, Asked::Commit(i, m)),
+        _ => Form::Refused(2),
+    }
 }
 
 // What the bytes ask, or the first of refusals 2 to 5.
 pub fn read_action(n: u8, a: &[u8]) -> Form
     ensures { λ r. ⌜ r ≡ formOf n (now (a .entry)) ⌝ }
 {
-    if is_no_action(a) {
+    if a.len() != 8 {
         return Form::Refused(2);
     }
-    read_fields(n, a)
+    by_kind(n, fields_in(a))
 }

@@ -6,7 +6,7 @@ use lib.Dec.{leb, eqb}
 use lib.ListN.{length, getD, drop}
 use Rattle.words.specs.Lists.{between, allBelow, nth, every, part}
 use Rattle.words.specs.Words.{halfAt, words}
-use Rattle.algorithm.specs.Table.{positions, soundCount, entries, Server, ceiling, soundServer}
+use Rattle.algorithm.specs.Table.{positions, entries, Server, ceiling, soundServer, serverWith, configOf}
 use Rattle.table.specs.Layout.{padded}
 
 -- ---- the opening
@@ -25,10 +25,6 @@ opened im =
 -- n, the number of servers
 abbrev pub countIn : List ℕ → ℕ
 countIn im = getD im 4 0
-
--- a table may have so many
-abbrev pub counted : List ℕ → Bool
-counted im = soundCount (countIn im)
 
 -- ---- the contents: entry 0 is for the marks, entry s for server s
 
@@ -86,12 +82,7 @@ marksIn b = padded positions (words b)
 abbrev pub serverIn : List ℕ → Server
 serverIn b =
     let w = words b in
-    record {
-      role = getD b 0 0;
-      term = getD w 1 0;
-      config = record { set = halfAt b 2; version = getD w 2 0; term = getD w 3 0 };
-      log = entries (drop 4 w);
-    }
+    serverWith (getD b 0 0) (getD w 1 0) (configOf (halfAt b 2) (getD w 2 0) (getD w 3 0)) (entries (drop 4 w))
 
 -- the marks keep the rules, and the last, where there is one, is not 0
 abbrev pub soundMarksBody : List ℕ → Bool

@@ -2,7 +2,8 @@
 ghost use mathlib.Core.Path.{_≡_};
 ghost use Prim.Native.Nat.{_≤_, _<_};
 ghost use lib.ListN.{length};
-ghost use Rattle.image.specs.Contents.{opened, countIn, counted, offset, size, stop, firstBody, start, figureBytes, fixed, mayHave, laid, laidOut};
+ghost use Rattle.algorithm.specs.Table.{soundCount};
+ghost use Rattle.image.specs.Contents.{opened, countIn, offset, size, stop, firstBody, start, figureBytes, fixed, mayHave, laid, laidOut};
 use algorithm::POSITIONS;
 use words::half;
 use words::wide;
@@ -39,7 +40,7 @@ pub fn is_opened(image: &[u8]) -> bool
 
 pub fn is_counted(image: &[u8]) -> bool
     requires { ⌜ 8 ≤ length (now image) ⌝ }
-    ensures { λ r. ⌜ r ≡ counted (now (image .entry)) ⌝ }
+    ensures { λ r. ⌜ r ≡ soundCount (countIn (now (image .entry))) ⌝ }
 {
     let n = image[4];
     (1 <= n) & (n <= MOST_SERVERS)

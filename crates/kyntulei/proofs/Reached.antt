@@ -12,8 +12,7 @@ use borrow.Author.Tests.{ne-eqb}
 use Rattle.algorithm.specs.Table.{Table, server, primary, mark, broken, fresh, held}
 use Rattle.algorithm.specs.Actions.{actionOf}
 use Rattle.words.specs.Refusal.{unlessRefused}
-use Rattle.algorithm.specs.Run.{step, pieces, play}
-use Rattle.algorithm.specs.Demand.{wins, wonBy, wonAlong, termsWon, Rising}
+use Rattle.algorithm.specs.Run.{step, pieces, play, wins, wonBy, wonAlong, Rising}
 use Rattle.algorithm.proofs.Runs.{play-sound, play-append, won-append, pieces-append}
 use Rattle.algorithm.proofs.Demands.{won-rise, not-given-24, primary-complete}
 use Rattle.table.specs.Layout.{stored, tableIn, whole}
@@ -145,7 +144,7 @@ module _ {n m : ℕ} {plan : List (List ℕ)} {replies b : List ℕ} (h : Reache
     run-24 j l e = reached-24 then-run (length replies + j) (getD-append-add replies (take k s') j 0 ∙ getD-take k s' j 0 l ∙ e)
 
     -- the terms that it wins are those of the algorithm's run on the table in the slice
-    pub run-won : wonAlong (fresh n m) (plan ++ pieces k p) ≡ wonAlong (fresh n m) plan ++ termsWon k (tableIn b) p
+    pub run-won : wonAlong (fresh n m) (plan ++ pieces k p) ≡ wonAlong (fresh n m) plan ++ wonAlong (tableIn b) (pieces k p)
     run-won = won-append (fresh n m) plan (pieces k p) ∙ rw (← reached-table h)
 
 -- ---- an evening and a morning

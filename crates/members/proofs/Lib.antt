@@ -1,4 +1,5 @@
 -- The laws of sets of servers.
+pub mod Said
 pub mod Counting
 pub mod Masks
 pub mod Majorities

@@ -9,7 +9,8 @@ use lib.Dec.{T}
 use lib.Bits.{bitAnd, bitXor, and-self}
 use lib.Count.{ones}
 use mir.Facts.{and-yes, yes-and}
-use Rattle.members.specs.Members.{member, Member, Subset, oneApart, Majority, majority, Meet, MajoritiesMeet, All, Some, Most, Hits, mask, allPass, somePass, mostPass}
+use Rattle.members.specs.Members.{member, Member, Subset, oneApart, Majority, majority, mask, allPass, somePass, mostPass}
+use Rattle.members.proofs.Said.{Meet, MajoritiesMeet, All, Some, Most, Hits}
 use Rattle.words.proofs.Tests.{Passes, Fails, both, together, contradiction, fails, equal, less, is-equal, is-less}
 use Rattle.members.proofs.Counting.{count, count-some, count-mono, count-both, count-unlike}
 use Rattle.members.proofs.Masks.{fits, ext, ones-count, ones-shared, ones-unlike, and-member, in-mask, mask-in, member-pos, member-le, a-member, member-some}

@@ -45,34 +45,6 @@ pub record Majority (q m : ℕ) : Type 0 where
 abbrev pub majority : ℕ → ℕ → Bool
 majority q m = eqb (bitAnd q m) q && ltb (ones m) (2 * ones q)
 
--- some server is in both
-abbrev pub Meet : ℕ → ℕ → Type 0
-Meet q r = (s : ℕ) × Member s q × Member s r
-
--- every majority of a meets every majority of b
-abbrev pub MajoritiesMeet : ℕ → ℕ → Type 0
-MajoritiesMeet a b = (q r : ℕ) → Majority q a → Majority r b → Meet q r
-
--- ---- what is said of the members of a set
-
--- P holds of every member of q
-abbrev pub All : ℕ → (ℕ → Type 0) → Type 0
-All q P = (s : ℕ) → Member s q → P s
-
--- P holds of some member of q
-abbrev pub Some : ℕ → (ℕ → Type 0) → Type 0
-Some q P = (s : ℕ) × Member s q × P s
-
--- P holds of every member of some majority of m
-pub record Most (m : ℕ) (P : ℕ → Type 0) : Type 0 where
-  pub by : ℕ
-  pub majority : Majority by m
-  pub all : All by P
-
--- P holds of some member of every majority of m
-abbrev pub Hits : ℕ → (ℕ → Type 0) → Type 0
-Hits m P = (q : ℕ) → Majority q m → Some q P
-
 -- ---- the same as tests, for sets of servers 1 to n (proofs/Majorities: all-pass and pass-all, some-passes and
 -- pass-some, most-pass and pass-most)
 

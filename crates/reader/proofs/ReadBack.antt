@@ -10,7 +10,7 @@ use lib.Seq.{take-suc, take-length, take-all}
 use borrow.Author.Tests.{le-ltb, eq-eqb}
 use Rattle.words.specs.Refusal.{first}
 use Rattle.words.proofs.Tests.{Passes, together, is-equal, is-at-most, is-true}
-use Rattle.algorithm.specs.Table.{Server, Table, absent, count, ceiling, positions, soundServer, broken, trimmed}
+use Rattle.algorithm.specs.Table.{Server, Table, absent, count, ceiling, positions, soundServer, broken, trimmed, soundCount}
 use Rattle.words.specs.Lists.{nth, every, between}
 use Rattle.words.proofs.Lists.{every-nth}
 use Rattle.algorithm.proofs.Sound.{SoundTable, table-sound}
@@ -20,7 +20,7 @@ use Rattle.table.specs.Layout.{tableBytes}
 use Rattle.table.proofs.SoundLaws.{marks-sound}
 use Rattle.table.proofs.HeldLaws.{roomy-at}
 use Rattle.table.proofs.StoredLaws.{its-shape}
-use Rattle.image.specs.Contents.{firstBody, figureBytes, counted, offset, size, stop, start, mayHave, laid, laidOut, body, marksIn, serverIn, soundMarksBody, soundServerBody, soundAt, soundBodies}
+use Rattle.image.specs.Contents.{firstBody, figureBytes, offset, size, stop, start, mayHave, laid, laidOut, body, marksIn, serverIn, soundMarksBody, soundServerBody, soundAt, soundBodies, countIn}
 use Rattle.image.specs.Image.{marksBody, serverBody, bodies, image}
 use Rattle.reader.specs.Reader.{serversTo, readReply, readTable, readEnd}
 use Rattle.words.proofs.BelowLaws.{below-all}
@@ -139,11 +139,11 @@ module _ (t : Table) (h : broken t ≡ false) where
     number : (slice : List ℕ) → length slice ≡ tableBytes → readReply im slice ≡ 0
     unfolding readReply first
     number slice e =
-        let some : Passes (counted im) = together {a = leb 1 (count t)} (is-at-most (rules .some)) (is-at-most (rules .few)) in
+        let some : Passes (soundCount (countIn im)) = together {a = leb 1 (count t)} (is-at-most (rules .some)) (is-at-most (rules .few)) in
         rw (
           eq-eqb (length slice) tableBytes e,
           le-ltb (length im) 8 (omega (arith, long, length-image t)),
-          is-true (counted im) (some .yes),
+          is-true (soundCount (countIn im)) (some .yes),
           is-true (laidOut im) (laid-out .yes),
           is-true (soundBodies im) (all-sound .yes),
         )

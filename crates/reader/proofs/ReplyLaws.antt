@@ -9,14 +9,14 @@ use lib.ListN.{length, getD}
 use borrow.Author.Tests.{lt-ltb, le-ltb, eq-eqb, ne-eqb, not-false}
 use Rattle.words.proofs.Tests.{Passes, both, refuted, equal, at-most}
 use Rattle.words.specs.Lists.{every}
-use Rattle.algorithm.specs.Table.{mostServers}
+use Rattle.algorithm.specs.Table.{mostServers, soundCount}
 use Rattle.words.specs.Refusal.{first}
 use Rattle.words.proofs.RefusalLaws.{none-hold}
 use Rattle.table.specs.Layout.{tableBytes, stored}
 use Rattle.table.specs.Slice.{Holds}
 use Rattle.table.proofs.StoredLaws.{held-stored}
 use Rattle.image.specs.Contents as Contents
-use Rattle.image.specs.Contents.{countIn, counted, offset, size, stop, firstBody, start, laid, laidOut, soundBodies, Names, Named}
+use Rattle.image.specs.Contents.{countIn, offset, size, stop, firstBody, start, laid, laidOut, soundBodies, Names, Named}
 use Rattle.reader.specs.Reader.{readRefusals, readReply, readTable, readEnd, readBytes, endAfter}
 use Rattle.words.proofs.BelowLaws.{all-below}
 
@@ -37,7 +37,7 @@ module _ (im slice : List ℕ) where
       unfolding readReply first
       reply-31 h = rw (eq-eqb (length slice) tableBytes sized, le-ltb (length im) 8 long, ← eo, h)
 
-      module _ (ho : not o ≡ false) (n : Bool) (en : n ≡ counted im) where
+      module _ (ho : not o ≡ false) (n : Bool) (en : n ≡ soundCount (countIn im)) where
         pub reply-32 : not n ≡ true → 32 ≡ readReply im slice
         unfolding readReply first
         reply-32 h = rw (eq-eqb (length slice) tableBytes sized, le-ltb (length im) 8 long, ← eo, ho, ← en, h)

@@ -6,10 +6,10 @@ use mathlib.Core.List.{List, [], _∷_, _++_}
 use lib.Dec.{ltb, eqb}
 use lib.ListN.{length}
 use Rattle.words.specs.Refusal.{Refusal, refuse, first, unlessRefused}
-use Rattle.algorithm.specs.Table.{Server, Table, withMarks}
+use Rattle.algorithm.specs.Table.{Server, Table, withMarks, soundCount}
 use Rattle.table.specs.Layout.{tableBytes, stored}
 use Rattle.table.specs.Slice.{blank}
-use Rattle.image.specs.Contents.{opened, countIn, counted, stop, laidOut, body, marksIn, serverIn, soundBodies}
+use Rattle.image.specs.Contents.{opened, countIn, stop, laidOut, body, marksIn, serverIn, soundBodies}
 
 -- the refusals for an image and the slice that a table is to be read into
 abbrev pub readRefusals : List ℕ → List ℕ → List Refusal
@@ -17,7 +17,7 @@ readRefusals im slice =
     refuse 1 (not (eqb (length slice) tableBytes))
     ∷ refuse 30 (ltb (length im) 8)
     ∷ refuse 31 (not (opened im))
-    ∷ refuse 32 (not (counted im))
+    ∷ refuse 32 (not (soundCount (countIn im)))
     ∷ refuse 33 (not (laidOut im))
     ∷ refuse 34 (not (soundBodies im))
     ∷ []

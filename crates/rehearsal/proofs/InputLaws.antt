@@ -1,5 +1,5 @@
 -- What both programs find of an input, and what each makes of it. Assumes nothing.
-use Prim.Native.Nat.{ℕ, _-_, _≤_, _<_}
+use Prim.Native.Nat.{ℕ, _-_, _≤_, _<_, _+_}
 use native.Mathlib.Nat.{zero-add}
 use native.Mathlib.Omega.{arith}
 use mathlib.Core.Path.{_≡_, refl, ap, sym, _∙_}
@@ -17,8 +17,8 @@ use Rattle.image.specs.Image.{image}
 use Rattle.reader.specs.Reader.{readReply, readTable, ReadAnswer}
 use Rattle.reader.proofs.ReplyLaws.{read-into, read-upto}
 use Rattle.reader.proofs.ReadTheorems.{not-broken, read-whole, read-within}
-use Rattle.buffer.specs.Buffer.{Wrote, WroteShort}
-use Rattle.report.specs.Lines.{badSiteLine, tooLongLine, badSiteRoom, playedLines}
+use Rattle.buffer.specs.Buffer.{Wrote, WroteShort, fieldRoom}
+use Rattle.report.specs.Lines.{badSiteLine, tooLongLine, playedLines}
 use Rattle.rehearsal.specs.declared.Opened.{Opened}
 use Rattle.rehearsal.specs.declared.Opened.the-variants as opened
 use Rattle.rehearsal.specs.declared.Saved.the-variants as stream
@@ -39,7 +39,7 @@ module _ (im t : List ℕ) (sized : length t ≡ tableBytes) (small : length im 
   reply : k ≡ siteReply im
   reply = a .reply ∙ reply-by-length im t (replicate tableBytes 0) (sized ∙ sym (length-replicate {A = ℕ} tableBytes 0))
 
-  pub bad-site-told : (b b₁ : List ℕ) (e : ℕ) → (k ≡ 0 → ⊥) → WroteShort badSiteRoom b b₁ 0 (badSiteLine k) e → Refused im b b₁ e
+  pub bad-site-told : (b b₁ : List ℕ) (e : ℕ) → (k ≡ 0 → ⊥) → WroteShort (8 + fieldRoom + 1) b b₁ 0 (badSiteLine k) e → Refused im b b₁ e
   bad-site-told b b₁ e h w =
       let short = le-ltb longest (length im) small in
       record { fault = rw (short, ne-eqb (siteReply im) 0 (λ f. h (reply ∙ f))); told = rw (short, ← reply) (w .wrote) }
@@ -64,7 +64,7 @@ saved-as : {im b b₁ : List ℕ} (w : Written) → saved im ≡ w → Wrote b b
 saved-as w e v = record { answer = rw e; wrote = rw e v }
 
 module _ (im b b₁ t : List ℕ) (r : Opened) (o : OpenAnswer im b b₁ t r) where
-  module _ (n : ℕ) (told : r ≡ opened.Told n) where
+  module _ (n : ℕ) (told : r ≡ opened.Fault n) where
     refused : Refused im b b₁ n
     refused = rw told at o
 

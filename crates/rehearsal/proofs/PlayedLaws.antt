@@ -23,10 +23,10 @@ use Rattle.image.specs.Image.{image, longestImage}
 use Rattle.image.proofs.LongestImage.{image-most}
 use Rattle.writer.specs.Writer.{Savable, imageOf}
 use Rattle.writer.proofs.WriteLaws.{savable}
-use Rattle.buffer.specs.Buffer.{Wrote, WroteShort}
-use Rattle.report.specs.Lines.{repliedLine, cutLine, repliedLines, cutLines, tableLines, wholeActions, playedLines, repliedRoom, cutRoom, tableRoom}
+use Rattle.buffer.specs.Buffer.{Wrote, WroteShort, numberRoom}
+use Rattle.report.specs.Lines.{repliedLine, cutLine, repliedLines, cutLines, tableLines, wholeActions, playedLines, repliedRoom, tableRoom}
 use Rattle.report.proofs.OrderLaws.{no-lines, one-line, more-lines, Lined, lined-more}
-use Rattle.rehearsal.specs.Programs.{longest, mostPieces}
+use Rattle.rehearsal.specs.Programs.{longest}
 
 -- ---- replies
 
@@ -37,27 +37,27 @@ replies-more b b₁ b₂ rs at k n d e = lined-more repliedRoom repliedLine rs b
 -- ---- what stands behind the whole actions
 
 module _ (b : List ℕ) (at : ℕ) (p : List ℕ) (n : ℕ) (whole : n ≡ length p / 8) (f : Found) (found : f ≡ foundAt p (8 * n)) where
-  none-left : length p % 8 ≡ 0 → at + cutRoom ≤ length b → WroteShort cutRoom b b at (flatten (cutLines p)) at
+  none-left : length p % 8 ≡ 0 → at + (numberRoom + 5) ≤ length b → WroteShort (numberRoom + 5) b b at (flatten (cutLines p)) at
   unfolding cutLines
-  none-left h r = rw (eq-eqb (length p % 8) 0 h) (no-lines cutRoom b at (omega arith))
+  none-left h r = rw (eq-eqb (length p % 8) 0 h) (no-lines (numberRoom + 5) b at (omega arith))
 
-  pub no-action : (e : ℕ) → f ≡ Action e → at + cutRoom ≤ length b → WroteShort cutRoom b b at (flatten (cutLines p)) at
+  pub no-action : (e : ℕ) → f ≡ Action e → at + (numberRoom + 5) ≤ length b → WroteShort (numberRoom + 5) b b at (flatten (cutLines p)) at
   no-action e h r = none-left (omega (arith, action-found p (8 * n) e (sym found ∙ h))) r
 
-  pub none-cut : f ≡ End → at + cutRoom ≤ length b → WroteShort cutRoom b b at (flatten (cutLines p)) at
+  pub none-cut : f ≡ End → at + (numberRoom + 5) ≤ length b → WroteShort (numberRoom + 5) b b at (flatten (cutLines p)) at
   none-cut h r = none-left (omega (arith, end-found p (8 * n) (sym found ∙ h))) r
 
-  pub is-cut : (e : ℕ) → f ≡ Cut e → (b₁ : List ℕ) (d : ℕ) → WroteShort cutRoom b b₁ at (cutLine (n + 1)) d
-      → WroteShort cutRoom b b₁ at (flatten (cutLines p)) d
+  pub is-cut : (e : ℕ) → f ≡ Cut e → (b₁ : List ℕ) (d : ℕ) → WroteShort (numberRoom + 5) b b₁ at (cutLine (n + 1)) d
+      → WroteShort (numberRoom + 5) b b₁ at (flatten (cutLines p)) d
   unfolding cutLines
   is-cut e h b₁ d w =
       rw (ne-eqb (length p % 8) 0 (omega (arith, cut-found p (8 * n) e (sym found ∙ h))), ← whole) (one-line w)
 
 -- ---- as many pieces as there is room for: all of them
 
-module _ (t p : List ℕ) (k : ℕ) (t' r' : List ℕ) (small : length p ≤ longest) (h : Played t p (replicate mostPieces 0) k t' r') where
-  all : played p (replicate mostPieces 0) ≡ pieceCount p
-  all = omega (arith, length-replicate {A = ℕ} mostPieces 0)
+module _ (t p : List ℕ) (k : ℕ) (t' r' : List ℕ) (small : length p ≤ longest) (h : Played t p (replicate (longest / 8) 0) k t' r') where
+  all : played p (replicate (longest / 8) 0) ≡ pieceCount p
+  all = omega (arith, length-replicate {A = ℕ} (longest / 8) 0)
 
   pub counted : k ≡ pieceCount p
   counted = h .count ∙ all
@@ -66,7 +66,7 @@ module _ (t p : List ℕ) (k : ℕ) (t' r' : List ℕ) (small : length p ≤ lon
   replies =
       let mine = run (tableIn t) p .replies in
       ap (take k) (h .replies)
-      ∙ rw all (take-at mine (drop (pieceCount p) (replicate mostPieces 0)) k (replies-count (pieceCount p) (tableIn t) p ∙ sym counted))
+      ∙ rw all (take-at mine (drop (pieceCount p) (replicate (longest / 8) 0)) k (replies-count (pieceCount p) (tableIn t) p ∙ sym counted))
 
   table : tableIn t' ≡ run (tableIn t) p .table
   table = its-table (rw all at (h .table))
@@ -90,7 +90,7 @@ module _ (t p : List ℕ) (k : ℕ) (t' r' : List ℕ) (small : length p ≤ lon
 
 -- ---- the lines of the whole actions and of what they leave
 
-module _ (t p : List ℕ) (k : ℕ) (t' r' : List ℕ) (small : length p ≤ longest) (h : Played t (wholeActions p) (replicate mostPieces 0) k t' r') where
+module _ (t p : List ℕ) (k : ℕ) (t' r' : List ℕ) (small : length p ≤ longest) (h : Played t (wholeActions p) (replicate (longest / 8) 0) k t' r') where
   shorter : length (wholeActions p) ≤ longest
   shorter = omega (arith, length-take-le (length p - length p % 8) p (omega arith))
 
@@ -98,7 +98,7 @@ module _ (t p : List ℕ) (k : ℕ) (t' r' : List ℕ) (small : length p ≤ lon
   whole-count = omega (arith, counted t (wholeActions p) k t' r' shorter h, length-take-le (length p - length p % 8) p (omega arith))
 
   pub played-shown : (b b₁ b₂ b₃ : List ℕ) (c d e : ℕ) → WroteShort (repliedRoom * k) b b₁ 0 (flatten (repliedLines (take k r'))) c
-      → WroteShort cutRoom b₁ b₂ c (flatten (cutLines p)) d → WroteShort tableRoom b₂ b₃ d (flatten (tableLines (tableIn t'))) e
+      → WroteShort (numberRoom + 5) b₁ b₂ c (flatten (cutLines p)) d → WroteShort tableRoom b₂ b₃ d (flatten (tableLines (tableIn t'))) e
       → Wrote b b₃ 0 (flatten (playedLines (tableIn t) p)) e
   unfolding playedLines
   played-shown b b₁ b₂ b₃ c d e u v w =

@@ -17,8 +17,7 @@ use Rattle.image.specs.Image.{contents, image}
 use Rattle.reader.specs.Reader.{readTable}
 use Rattle.reader.proofs.ReadBack.{end-back}
 use Rattle.reader.proofs.ReadTheorems.{read-back}
-use Rattle.report.specs.Lines.{playedLines}
-use Rattle.report.specs.Case.{plan, given, expected}
+use Rattle.report.specs.Lines.{playedLines, plan, expected}
 use Rattle.report.proofs.Worked.{case-holds}
 use Rattle.rehearsal.specs.Programs.{longest, siteReply, faulty, planOf, inputLines}
 
@@ -49,5 +48,4 @@ unfolding image contents flatten trimmed bytes
 case-short = omega arith
 
 pub whole-case : inputLines (image (fresh 4 7) ++ plan) ≡ expected
-unfolding given
 whole-case = image-lines (fresh 4 7) plan case-sound case-short ∙ case-holds

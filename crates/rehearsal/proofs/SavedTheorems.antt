@@ -1,7 +1,7 @@
 -- What the contract of `save` amounts to. Assumes nothing.
 use Prim.Native.Nat.{ℕ, _≤_}
 use mathlib.Core.Bool.{false}
-use mathlib.Core.Path.{_≡_, refl, ap, sym, _∙_}
+use mathlib.Core.Path.{_≡_, ap, sym, _∙_}
 use mathlib.Core.List.{List, _++_}
 use lib.ListN.{length, take, drop}
 use lib.Seq.{take-append-seam, length-take-le}
@@ -15,24 +15,23 @@ use Rattle.buffer.proofs.WroteUnique.{wrote-unique}
 use Rattle.report.specs.Lines.{playedLines}
 use Rattle.rehearsal.specs.declared.Saved.{Saved}
 use Rattle.rehearsal.specs.declared.Saved.the-variants.{Image, Told}
-use Rattle.rehearsal.specs.Programs.{longest, inputLines, Written, toOutput, toError, saved, onOutput, onError, bytesOf, answerOf, SaveAnswer, sentOutput, sentError}
+use Rattle.rehearsal.specs.Programs.{longest, inputLines, Written, toOutput, toError, saved, bytesOf, answerOf, SaveAnswer, sent}
 use Rattle.rehearsal.proofs.PrintedTheorems.{image-opened, image-lines}
 
 -- Two answers that meet the contract for one input and one buffer are the same answer.
 pub save-unique : {input b b₁ b₂ : List ℕ} {r₁ r₂ : Saved} → SaveAnswer input b r₁ b₁ → SaveAnswer input b r₂ b₂ → (r₁ ≡ r₂) × (b₁ ≡ b₂)
 save-unique h k = (h .answer ∙ sym (k .answer), wrote-unique (h .wrote) (k .wrote) .1)
 
--- What an answer that meets the contract has the program write is, on each stream, what the definition says.
-pub save-sent : {input b b' : List ℕ} {r : Saved} → SaveAnswer input b r b'
-    → (sentOutput r b' ≡ onOutput (saved input)) × (sentError r b' ≡ onError (saved input))
+-- What an answer that meets the contract has the program write is what the definition says, on the stream that it says.
+pub save-sent : {input b b' : List ℕ} {r : Saved} → SaveAnswer input b r b' → sent r b' ≡ saved input
 save-sent {input} {b} {b'} h = rw (h .answer) (go (saved input) (h .wrote))
   where
     begins : (l : List ℕ) → Wrote b b' 0 l (length l) → take (length l) b' ≡ l
     begins l w = ap (take (length l)) (w .bytes) ∙ take-append-seam l (drop (length l) b)
 
-    go : (w : Written) → Wrote b b' 0 (bytesOf w) (length (bytesOf w)) → (sentOutput (answerOf w) b' ≡ onOutput w) × (sentError (answerOf w) b' ≡ onError w)
-    go (toOutput l) w = (begins l w, refl)
-    go (toError l) w = (refl, begins l w)
+    go : (w : Written) → Wrote b b' 0 (bytesOf w) (length (bytesOf w)) → sent (answerOf w) b' ≡ w
+    go (toOutput l) w = ap toOutput (begins l w)
+    go (toError l) w = ap toError (begins l w)
 
 -- What main lends of the buffer is within it, and as long as the answer says.
 abbrev countOf : Saved → ℕ
@@ -65,7 +64,8 @@ unfolding saved
 image-saved t p h small = let (sound, table, rest) = image-opened t p h small in rw (sound, table, rest)
 
 -- So what was saved in the evening, with the plan of the morning behind it, is rehearsed from the table that the evening left.
-pub next-morning : (t : Table) (p q : List ℕ) → broken t ≡ false → length (image t ++ p) ≤ longest → length (image (run t p .table) ++ q) ≤ longest
-    → inputLines (onOutput (saved (image t ++ p)) ++ q) ≡ playedLines (run t p .table) q
-next-morning t p q h small most =
-    rw (image-saved t p h small) (image-lines (run t p .table) q (play-sound t (pieces (pieceCount p) p) h) most)
+pub next-morning : (t : Table) (p q l : List ℕ) → broken t ≡ false → length (image t ++ p) ≤ longest → saved (image t ++ p) ≡ toOutput l
+    → length (l ++ q) ≤ longest → inputLines (l ++ q) ≡ playedLines (run t p .table) q
+next-morning t p q l h small e most =
+    let same : l ≡ image (run t p .table) = ap bytesOf (sym e ∙ image-saved t p h small) in
+    rw same (image-lines (run t p .table) q (play-sound t (pieces (pieceCount p) p) h) (rw same at most))

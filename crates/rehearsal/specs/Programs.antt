@@ -1,5 +1,5 @@
 -- All that `rehearse` prints and all that `save` writes, of the bytes of the input. The enums stand in src/lib.rt. Assumes nothing.
-use Prim.Native.Nat.{ℕ, _/_, _≤_}
+use Prim.Native.Nat.{ℕ, _≤_}
 use mathlib.Core.Bool.{Bool, cond, not, _||_, true, false}
 use mathlib.Core.List.{List, [], _∷_, flatten}
 use mathlib.Core.Path.{_≡_}
@@ -15,15 +15,11 @@ use Rattle.rehearsal.specs.declared.Saved.{Saved}
 use Rattle.rehearsal.specs.declared.Saved.the-variants.{Image, Told}
 use Rattle.engine.specs.Engine.{Ready}
 use Rattle.rehearsal.specs.declared.Opened.{Opened}
-use Rattle.rehearsal.specs.declared.Opened.the-variants.{Told, Site}
+use Rattle.rehearsal.specs.declared.Opened.the-variants.{Fault, Site}
 
 -- the longest input that is played
 abbrev pub longest : ℕ
 longest = 65536
-
--- the most pieces of 8 bytes that it has
-abbrev pub mostPieces : ℕ
-mostPieces = longest / 8
 
 -- the number that the reader answers to the input, into a slice of a table's length
 abbrev pub siteReply : List ℕ → ℕ
@@ -37,6 +33,8 @@ faulty input = ltb longest (length input) || not (eqb (siteReply input) 0)
 abbrev pub faultLine : List ℕ → List ℕ
 faultLine input = cond (ltb longest (length input)) tooLongLine (badSiteLine (siteReply input))
 
+-- ---- what `rehearse` prints
+
 -- the bytes behind the image: its actions
 abbrev pub planOf : List ℕ → List ℕ
 planOf input = drop (readEnd input) input
@@ -49,6 +47,8 @@ inputLines input = cond (faulty input) (faultLine input ∷ []) (playedLines (re
 abbrev pub printed : List ℕ → List ℕ
 printed input = flatten (inputLines input)
 
+-- ---- what `save` writes
+
 -- bytes for one stream: standard output gets an image, or standard error words; the other gets nothing
 pub data Written : Type 0 where
   toOutput : List ℕ → Written
@@ -57,16 +57,6 @@ pub data Written : Type 0 where
 -- the words of `rehearse` where it does not play the input, and else the image of the table that the run of all bytes behind the image leaves
 unfoldable pub saved : List ℕ → Written
 saved input = cond (faulty input) (toError (faultLine input)) (toOutput (image (run (readTable input) (planOf input) .table)))
-
--- what standard output gets
-abbrev pub onOutput : Written → List ℕ
-onOutput (toOutput l) = l
-onOutput (toError l) = []
-
--- what standard error gets
-abbrev pub onError : Written → List ℕ
-onError (toOutput l) = []
-onError (toError l) = l
 
 -- the bytes, whichever stream gets them
 abbrev pub bytesOf : Written → List ℕ
@@ -83,15 +73,10 @@ pub record SaveAnswer (input b : List ℕ) (r : Saved) (b' : List ℕ) : Type 0 
   pub answer : r ≡ answerOf (saved input)
   pub wrote : Wrote b b' 0 (bytesOf (saved input)) (length (bytesOf (saved input)))
 
--- what an answer has the program write of the buffer to standard output
-abbrev pub sentOutput : Saved → List ℕ → List ℕ
-sentOutput (Image n) b = take n b
-sentOutput (Told n) b = []
-
--- and to standard error
-abbrev pub sentError : Saved → List ℕ → List ℕ
-sentError (Image n) b = []
-sentError (Told n) b = take n b
+-- what an answer has the program write of a buffer
+abbrev pub sent : Saved → List ℕ → Written
+sent (Image n) b = toOutput (take n b)
+sent (Told n) b = toError (take n b)
 
 -- the input is not played, and the line that tells why is put at the start of the buffer
 pub record Refused (input b b' : List ℕ) (n : ℕ) : Type 0 where
@@ -110,5 +95,5 @@ pub record Playable (input b b' t : List ℕ) (at : ℕ) : Type 0 where
 
 -- the one or the other, by the answer
 abbrev pub OpenAnswer : List ℕ → List ℕ → List ℕ → List ℕ → Opened → Type 0
-OpenAnswer input b b' t (Told n) = Refused input b b' n
+OpenAnswer input b b' t (Fault n) = Refused input b b' n
 OpenAnswer input b b' t (Site at) = Playable input b b' t at

@@ -7,8 +7,8 @@ ghost use Rattle.algorithm.specs.Run.{run};
 ghost use Rattle.table.specs.Layout.{tableBytes, tableIn};
 ghost use Rattle.engine.specs.Engine.{Ready};
 ghost use Rattle.image.specs.Image.{image, longestImage};
-ghost use Rattle.buffer.specs.Buffer.{Wrote, WroteShort};
-ghost use Rattle.report.specs.Lines.{repliedLines, cutLines, playedLines, repliedRoom, cutRoom, badSiteRoom};
+ghost use Rattle.buffer.specs.Buffer.{numberRoom, fieldRoom, Wrote, WroteShort};
+ghost use Rattle.report.specs.Lines.{repliedLines, cutLines, playedLines, repliedRoom};
 ghost use Rattle.rehearsal.specs.Programs.{longest, printed, OpenAnswer, SaveAnswer};
 use engine::run;
 use reader::read;
@@ -38,7 +38,7 @@ pub const IMAGE: usize = 4684;
 
 // An input is not played, and what is told of it is so long; or its actions begin at a place.
 pub(crate) enum Opened {
-    Told(usize),
+    Fault(usize),
     Site(usize),
 }
 
@@ -66,8 +66,8 @@ fn put_replies(buffer: &mut [u8], from: usize, replies: &[u8], n: usize) -> usiz
 // What stands behind the n whole actions, if anything does, is told under the next number.
 fn put_cut(buffer: &mut [u8], at: usize, actions: &[u8], n: usize) -> usize
     requires { ⌜ (n ≡ length (now actions) / 8) × (length (now actions) ≤ longest) ⌝ }
-    requires { ⌜ at + cutRoom ≤ length (now buffer) ⌝ }
-    ensures { λ e. ⌜ WroteShort cutRoom (now (buffer .entry)) (now (buffer .exit)) at (flatten (cutLines (now (actions .entry)))) e ⌝ }
+    requires { ⌜ at + (numberRoom + 5) ≤ length (now buffer) ⌝ }
+    ensures { λ e. ⌜ WroteShort (numberRoom + 5) (now (buffer .entry)) (now (buffer .exit)) at (flatten (cutLines (now (actions .entry)))) e ⌝ }
 {
     match next(actions, 8 * n) {
         Found::Action(_) => at,
@@ -106,16 +106,16 @@ fn put_left(buffer: &mut [u8], t: &mut [u8], actions: &[u8]) -> usize
 // Reads the table of an input into t. Of an input that is not played, why is put into the buffer.
 fn open_input(input: &[u8], t: &mut [u8], buffer: &mut [u8]) -> Opened
     requires { ⌜ length (now t) ≡ tableBytes ⌝ }
-    requires { ⌜ badSiteRoom ≤ length (now buffer) ⌝ }
+    requires { ⌜ (8 + fieldRoom + 1) ≤ length (now buffer) ⌝ }
     ensures { λ r. ⌜ OpenAnswer (now (input .entry)) (now (buffer .entry)) (now (buffer .exit)) (now (t .exit)) r ⌝ }
 {
     if MOST < input.len() {
-        return Opened::Told(too_long_line(buffer, 0));
+        return Opened::Fault(too_long_line(buffer, 0));
     }
     let mut end: u64 = 0;
     let number = read(input, t, &mut end);
     if number != 0 {
-        return Opened::Told(bad_site_line(buffer, 0, number));
+        return Opened::Fault(bad_site_line(buffer, 0, number));
     }
     Opened::Site(end as usize)
 }
@@ -127,7 +127,7 @@ pub fn rehearse(input: &[u8], buffer: &mut [u8]) -> usize
 {
     let mut t = [0u8; BYTES];
     match open_input(input, &mut t, buffer) {
-        Opened::Told(n) => n,
+        Opened::Fault(n) => n,
         Opened::Site(at) => put_played(buffer, &mut t, &input[at..]),
     }
 }
@@ -139,7 +139,7 @@ pub fn save(input: &[u8], buffer: &mut [u8]) -> Saved
 {
     let mut t = [0u8; BYTES];
     match open_input(input, &mut t, buffer) {
-        Opened::Told(n) => Saved::Told(n),
+        Opened::Fault(n) => Saved::Told(n),
         Opened::Site(at) => Saved::Image(put_left(buffer, &mut t, &input[at..])),
     }
 }

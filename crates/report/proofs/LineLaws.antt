@@ -9,7 +9,7 @@ use Rattle.algorithm.specs.Table.{positions, trimmed}
 use Rattle.table.specs.declared.rows.Row.{Row}
 use Rattle.table.proofs.MarkLaws.{trimmed-take}
 use Rattle.buffer.specs.Buffer.{text, decimal, numberRoom, field, fieldRoom, fields, Wrote, WroteShort}
-use Rattle.report.specs.Lines.{reply, repliedLine, cutLine, badSiteLine, tooLongLine, letter, figures, shownRow, marksLine, repliedRoom, cutRoom, badSiteRoom, rowRoom, marksLineRoom}
+use Rattle.report.specs.Lines.{reply, repliedLine, cutLine, badSiteLine, tooLongLine, letter, figures, shownRow, marksLine, repliedRoom, rowRoom}
 use Rattle.buffer.proofs.WroteLaws.{exact, then-short}
 
 -- ---- parts of a line
@@ -45,7 +45,7 @@ module _ (b b₁ : List ℕ) (at e : ℕ) where
   too-long w = exact w
 
 module _ (b b₁ b₂ : List ℕ) (at d e : ℕ) where
-  pub cut : (k : ℕ) → WroteShort numberRoom b b₁ at (decimal k) d → Wrote b₁ b₂ d (text " cut\n") e → WroteShort cutRoom b b₂ at (cutLine k) e
+  pub cut : (k : ℕ) → WroteShort numberRoom b b₁ at (decimal k) d → Wrote b₁ b₂ d (text " cut\n") e → WroteShort (numberRoom + 5) b b₂ at (cutLine k) e
   unfolding cutLine
   cut k n w = then-short n (exact w)
 
@@ -56,7 +56,7 @@ module _ (b b₁ b₂ b₃ : List ℕ) (at c d e : ℕ) where
   replied k r n p w = then-short (then-short n p) (exact w)
 
   pub bad-site : (r : ℕ) → Wrote b b₁ at (text "bad site") c → WroteShort fieldRoom b₁ b₂ c (field r) d → Wrote b₂ b₃ d (text "\n") e
-      → WroteShort badSiteRoom b b₃ at (badSiteLine r) e
+      → WroteShort (8 + fieldRoom + 1) b b₃ at (badSiteLine r) e
   unfolding badSiteLine
   bad-site r v n w = then-short (then-short (exact v) n) (exact w)
 
@@ -66,6 +66,6 @@ module _ (b b₁ b₂ b₃ : List ℕ) (at c d e : ℕ) where
   row s a n f w = then-short (then-short n f) (exact w)
 
   pub marks-shown : (ms : List ℕ) (n : ℕ) → (n ≡ length (trimmed ms)) × (n ≤ positions) → Wrote b b₁ at (text "marks") c
-      → WroteShort (fieldRoom * positions) b₁ b₂ c (fields (take n ms)) d → Wrote b₂ b₃ d (text "\n") e → WroteShort marksLineRoom b b₃ at (marksLine ms) e
+      → WroteShort (fieldRoom * positions) b₁ b₂ c (fields (take n ms)) d → Wrote b₂ b₃ d (text "\n") e → WroteShort (5 + fieldRoom * positions + 1) b b₃ at (marksLine ms) e
   unfolding marksLine
   marks-shown ms n (h, _) v f w = rw (sym (trimmed-take ms), ← h) (then-short (then-short (exact v) f) (exact w))

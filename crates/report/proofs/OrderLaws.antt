@@ -8,13 +8,13 @@ use mathlib.Core.List.{List, [], _∷_, _++_, append-assoc, append-nil, flatten}
 use lib.ListN.{length, getD, take}
 use lib.Seq.{take-all}
 use Rattle.words.specs.Lists.{nth}
-use Rattle.algorithm.specs.Table.{absent, count, server, mostServers}
+use Rattle.algorithm.specs.Table.{absent, count, server, mostServers, positions}
 use Rattle.table.specs.Layout.{tableIn}
 use Rattle.table.specs.Slice.{Held, seen}
 use Rattle.table.specs.declared.rows.Row.{Row}
-use Rattle.buffer.specs.Buffer.{WroteShort}
+use Rattle.buffer.specs.Buffer.{WroteShort, fieldRoom}
 use Rattle.buffer.proofs.WroteLaws.{wrote-none, sized, then-short}
-use Rattle.report.specs.Lines.{shownRow, rowLine, marksLine, numbered, rowLines, tableLines, rowRoom, marksLineRoom, tableRoom}
+use Rattle.report.specs.Lines.{shownRow, rowLine, marksLine, numbered, rowLines, tableLines, rowRoom, tableRoom}
 
 pub flatten-append : (l m : List (List ℕ)) → flatten (l ++ m) ≡ flatten l ++ flatten m
 unfolding flatten
@@ -83,7 +83,7 @@ module _ (b b₁ t : List ℕ) (at d s n : ℕ) (c : n ≡ count (tableIn t)) (v
       record { wrote = rw all at (v .wrote .wrote); short = omega (arith, v .wrote .short, h .shaped .few) }
 
 pub table-shown : (b b₁ b₂ t : List ℕ) (at d e : ℕ) → WroteShort (rowRoom * mostServers) b b₁ at (flatten (rowLines (tableIn t .servers))) d
-    → WroteShort marksLineRoom b₁ b₂ d (marksLine (tableIn t .marks)) e → WroteShort tableRoom b b₂ at (flatten (tableLines (tableIn t))) e
+    → WroteShort (5 + fieldRoom * positions + 1) b₁ b₂ d (marksLine (tableIn t .marks)) e → WroteShort tableRoom b b₂ at (flatten (tableLines (tableIn t))) e
 unfolding tableLines
 table-shown b b₁ b₂ t at d e v w =
     more-lines (rowLines (tableIn t .servers)) (marksLine (tableIn t .marks) ∷ []) v (one-line w)

@@ -3,14 +3,13 @@ use mathlib.Core.Path.{_≡_, refl}
 use lib.Count.{ones}
 use Rattle.members.specs.Members.{mask}
 use Rattle.words.specs.Lists.{nth, replace, every}
-use Rattle.algorithm.specs.Table.{trimmed, broken}
+use Rattle.algorithm.specs.Table.{trimmed, broken, fresh}
 use Rattle.algorithm.specs.Actions.{votersFrom, someMarked, holdsMarked}
 use Rattle.algorithm.specs.Run.{refusals, after, step, pieces, play}
 use Rattle.words.specs.Refusal.{first}
 use Rattle.buffer.specs.Buffer.{digits, decimal, field, fields}
-use Rattle.report.specs.Lines.{reply, repliedLine, letter, shownRow, marksLine, numbered, tableLines, cutLines, playedLines}
-use Rattle.report.specs.Case.{given, expected}
+use Rattle.report.specs.Lines.{reply, repliedLine, letter, shownRow, marksLine, numbered, tableLines, cutLines, playedLines, plan, expected}
 
-pub case-holds : given ≡ expected
-unfolding given expected playedLines cutLines tableLines numbered digits decimal field fields reply repliedLine letter shownRow trimmed marksLine ones mask nth replace every broken votersFrom someMarked holdsMarked refusals first after step pieces play
+pub case-holds : playedLines (fresh 4 7) plan ≡ expected
+unfolding expected playedLines cutLines tableLines numbered digits decimal field fields reply repliedLine letter shownRow trimmed marksLine ones mask nth replace every broken votersFrom someMarked holdsMarked refusals first after step pieces play
 case-holds = refl

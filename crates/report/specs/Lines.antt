@@ -1,11 +1,13 @@
--- The lines that `rehearse` prints, as bytes: one by one, and those of a table and its actions in order. Assumes nothing.
+-- The lines that `rehearse` prints, as bytes: one by one, those of a table and its actions, and the case that document 01 prints. Assumes nothing.
 use Prim.Native.Nat.{ℕ, zero, suc, _+_, _*_, _-_, _/_, _%_}
+use Prim.Native.String.{String}
 use mathlib.Core.Bool.{cond}
-use mathlib.Core.List.{List, [], _∷_, _++_}
+use mathlib.Core.List.{List, [], _∷_, _++_, map}
 use lib.Dec.{eqb}
 use lib.ListN.{length, take}
 use Rattle.algorithm.specs.Table.{Server, positions, mostServers, trimmed, Table}
 use Rattle.algorithm.specs.Run.{run}
+use Rattle.algorithm.specs.Cases.{actionBytes}
 use Rattle.table.specs.Slice.{seen}
 use Rattle.table.specs.declared.rows.Row.{Row}
 use Rattle.buffer.specs.Buffer.{text, numberRoom, decimal, fieldRoom, field, fields}
@@ -63,25 +65,13 @@ marksLine ms = text "marks" ++ fields (trimmed ms) ++ text "\n"
 abbrev pub repliedRoom : ℕ
 repliedRoom = numberRoom + (8 + fieldRoom) + 1
 
--- that of a cut
-abbrev pub cutRoom : ℕ
-cutRoom = numberRoom + 5
-
--- that of an image that is refused
-abbrev pub badSiteRoom : ℕ
-badSiteRoom = 8 + fieldRoom + 1
-
 -- that of a server
 abbrev pub rowRoom : ℕ
 rowRoom = 5 + fieldRoom + 6 * fieldRoom + 1
 
--- that of the marks
-abbrev pub marksLineRoom : ℕ
-marksLineRoom = 5 + fieldRoom * positions + 1
-
 -- all lines of a table
 abbrev pub tableRoom : ℕ
-tableRoom = rowRoom * mostServers + marksLineRoom
+tableRoom = rowRoom * mostServers + (5 + fieldRoom * positions + 1)
 
 -- a line for each thing in a list, the first of which has the number k
 unfoldable pub numbered : {A : Type 0} → (ℕ → A → List ℕ) → ℕ → List A → List (List ℕ)
@@ -113,3 +103,39 @@ unfoldable pub playedLines : Table → List ℕ → List (List ℕ)
 playedLines t p =
     let r = run t (wholeActions p) in
     repliedLines (r .replies) ++ (cutLines p ++ tableLines (r .table))
+
+-- the case's nine actions: kind, i, j and the set of each
+abbrev pub plan : List ℕ
+plan =
+    actionBytes 1 1 0 3
+    ++ actionBytes 5 1 0 0
+    ++ actionBytes 6 2 1 0
+    ++ actionBytes 2 1 0 15
+    ++ actionBytes 3 1 2 0
+    ++ actionBytes 2 1 0 15
+    ++ actionBytes 8 1 0 3
+    ++ actionBytes 2 1 0 15
+    ++ actionBytes 1 3 0 6
+
+-- what it must print
+abbrev pub lines : List String
+lines =
+    "1 taken\n"
+    ∷ "2 taken\n"
+    ∷ "3 taken\n"
+    ∷ "4 refused 14\n"
+    ∷ "5 taken\n"
+    ∷ "6 refused 16\n"
+    ∷ "7 taken\n"
+    ∷ "8 taken\n"
+    ∷ "9 refused 8\n"
+    ∷ "row 1 P 1 15 2 1 1 1\n"
+    ∷ "row 2 S 1 7 1 1 1 1\n"
+    ∷ "row 3 S 0 7 1 0 0 0\n"
+    ∷ "row 4 S 0 7 1 0 0 0\n"
+    ∷ "marks 1\n"
+    ∷ []
+
+-- the same as bytes
+unfoldable pub expected : List (List ℕ)
+expected = map text lines

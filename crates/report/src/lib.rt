@@ -4,11 +4,11 @@ mod parts;
 ghost use Prim.Native.Nat.{_+_, _*_, _≤_};
 ghost use lib.ListN.{length};
 ghost use mathlib.Core.List.{flatten};
-ghost use Rattle.algorithm.specs.Table.{mostServers};
+ghost use Rattle.algorithm.specs.Table.{positions, mostServers};
 ghost use Rattle.table.specs.Layout.{tableIn};
 ghost use Rattle.table.specs.Slice.{Held};
-ghost use Rattle.report.specs.Lines.{repliedLine, cutLine, badSiteLine, tooLongLine, shownRow, marksLine, rowLines, tableLines, repliedRoom, cutRoom, badSiteRoom, rowRoom, marksLineRoom, tableRoom};
-ghost use Rattle.buffer.specs.Buffer.{WroteShort};
+ghost use Rattle.report.specs.Lines.{repliedLine, cutLine, badSiteLine, tooLongLine, shownRow, marksLine, rowLines, tableLines, repliedRoom, rowRoom, tableRoom};
+ghost use Rattle.buffer.specs.Buffer.{numberRoom, fieldRoom, WroteShort};
 use crate::parts::put_figures;
 use crate::parts::put_head;
 use crate::parts::put_marks;
@@ -41,8 +41,8 @@ pub fn replied_line(buffer: &mut [u8], at: usize, k: u32, r: u8) -> usize
 
 // The input ends inside action k.
 pub fn cut_line(buffer: &mut [u8], at: usize, k: u32) -> usize
-    requires { ⌜ at + cutRoom ≤ length (now buffer) ⌝ }
-    ensures { λ e. ⌜ WroteShort cutRoom (now (buffer .entry)) (now (buffer .exit)) at (cutLine k) e ⌝ }
+    requires { ⌜ at + (numberRoom + 5) ≤ length (now buffer) ⌝ }
+    ensures { λ e. ⌜ WroteShort (numberRoom + 5) (now (buffer .entry)) (now (buffer .exit)) at (cutLine k) e ⌝ }
 {
     let end = put_decimal(buffer, at, k);
     put_word(buffer, end, b" cut\n")
@@ -50,8 +50,8 @@ pub fn cut_line(buffer: &mut [u8], at: usize, k: u32) -> usize
 
 // The reader refuses the image with the number r.
 pub fn bad_site_line(buffer: &mut [u8], at: usize, r: u32) -> usize
-    requires { ⌜ at + badSiteRoom ≤ length (now buffer) ⌝ }
-    ensures { λ e. ⌜ WroteShort badSiteRoom (now (buffer .entry)) (now (buffer .exit)) at (badSiteLine r) e ⌝ }
+    requires { ⌜ at + (8 + fieldRoom + 1) ≤ length (now buffer) ⌝ }
+    ensures { λ e. ⌜ WroteShort (8 + fieldRoom + 1) (now (buffer .entry)) (now (buffer .exit)) at (badSiteLine r) e ⌝ }
 {
     let end = put_word(buffer, at, b"bad site");
     let end = put_field(buffer, end, r);
@@ -78,9 +78,9 @@ pub fn row_line(buffer: &mut [u8], at: usize, s: u8, a: Row) -> usize
 
 // The marks of the table in t.
 pub fn marks_line(buffer: &mut [u8], at: usize, t: &[u8]) -> usize
-    requires { ⌜ at + marksLineRoom ≤ length (now buffer) ⌝ }
+    requires { ⌜ at + (5 + fieldRoom * positions + 1) ≤ length (now buffer) ⌝ }
     requires { ⌜ Held (now t) ⌝ }
-    ensures { λ e. ⌜ WroteShort marksLineRoom (now (buffer .entry)) (now (buffer .exit)) at (marksLine (tableIn (now (t .entry)) .marks)) e ⌝ }
+    ensures { λ e. ⌜ WroteShort (5 + fieldRoom * positions + 1) (now (buffer .entry)) (now (buffer .exit)) at (marksLine (tableIn (now (t .entry)) .marks)) e ⌝ }
 {
     let n = marked(t);
     let end = put_word(buffer, at, b"marks");

@@ -5,7 +5,7 @@ use mathlib.Core.Bool.{Bool, true, false, not, _&&_}
 use mathlib.Core.List.{List, [], _∷_, _++_, map}
 use lib.Dec.{eqb}
 use lib.ListN.{length, getD, take, drop, replicate}
-use Rattle.algorithm.specs.Table.{Entry, Log, entries, Server, Table, count, positions, mostServers, broken}
+use Rattle.algorithm.specs.Table.{Entry, Log, entries, Server, Table, count, positions, mostServers, broken, serverWith, configOf}
 use Rattle.words.specs.Words.{words, bytes}
 
 -- ---- sizes
@@ -62,12 +62,7 @@ stored t = bytes (layout t)
 -- the server whose row the words begin with
 unfoldable pub serverOf : List ℕ → Server
 serverOf d =
-    record {
-      role = getD d 0 0;
-      term = getD d 1 0;
-      config = record { set = getD d 2 0; version = getD d 3 0; term = getD d 4 0 };
-      log = entries (take (getD d 5 0) (drop 6 d));
-    }
+    serverWith (getD d 0 0) (getD d 1 0) (configOf (getD d 2 0) (getD d 3 0) (getD d 4 0)) (entries (take (getD d 5 0) (drop 6 d)))
 
 -- the servers of the first k rows
 unfoldable pub serversOf : ℕ → List ℕ → List Server

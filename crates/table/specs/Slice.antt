@@ -4,7 +4,7 @@ use mathlib.Core.Path.{_≡_}
 use mathlib.Core.List.{List, [], _∷_}
 use lib.ListN.{length, replicate}
 use Rattle.words.specs.Words.{words}
-use Rattle.algorithm.specs.Table.{configOf, Log, Server, absent, withRole, withTerm, withConfig, withLog, Table, count, positions, mostServers, last}
+use Rattle.algorithm.specs.Table.{configOf, Log, Server, absent, Table, count, positions, mostServers, last, serverWith}
 use Rattle.table.specs.declared.figures.Figures.{Figures}
 use Rattle.table.specs.Layout.{tableBytes, layout, tableIn}
 use Rattle.table.specs.declared.rows.Row.{Row}
@@ -22,8 +22,7 @@ figuresOf s =
 
 -- the server with these figures and this log
 abbrev pub figured : Figures → Log → Server
-figured f l =
-    withRole (f .role) (withTerm (f .term .0) (withConfig (configOf (f .set) (f .version .0) (f .config .0)) (withLog l absent)))
+figured f l = serverWith (f .role) (f .term .0) (configOf (f .set) (f .version .0) (f .config .0)) l
 
 -- a log of n entries has room in a row, and the set m in 16 bits
 pub record Room (n m : ℕ) : Type 0 where

@@ -1,2 +1,1 @@
--- What the check asks of a slice's words.
 pub mod Check

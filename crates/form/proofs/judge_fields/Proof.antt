@@ -8,12 +8,11 @@ pub judge-fields-spec : {M : Type 1} → statement M
 judge-fields-spec =
     tie.close
     (tie.spec
-    (λ c κs. search needs)
-    (λ c κs. search needs)
     (λ c. search judging depth 9)
     (λ c κs. search needs)
     (λ c κs. search needs)
     (λ c. search judging depth 9)
+    (λ c. search needs)
     (λ c κs. search needs)
     (λ c. search judging depth 9)
     (λ c. search judging depth 9))
