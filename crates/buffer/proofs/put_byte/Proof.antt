@@ -4,17 +4,8 @@ use Rattle.buffer.proofs.WroteLaws.{wrote-byte}
 use Rattle.buffer.proofs.put_byte.Statement.{statement}
 use Rattle.buffer.proofs.put_byte.Tie as tie
 
-slice-write-buffer : tie.Need-slice-write-buffer
-slice-write-buffer c = search needs
-
-add-result : tie.Need-add-result
-add-result c = search needs
-
-same-length : tie.Need-same-length
-same-length c = search needs
-
 returns : tie.Need-returns
 returns c = search (needs, wrote-byte)
 
 pub put-byte-spec : {M : Type 1} → statement M
-put-byte-spec = tie.close (tie.spec slice-write-buffer add-result same-length returns)
+put-byte-spec = tie.close (tie.spec (λ c. search needs) (λ c. search needs) (λ c. search needs) returns)

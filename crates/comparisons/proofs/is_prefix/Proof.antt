@@ -15,35 +15,11 @@ Inv-loop t i j n ok₀ k₀ ok k = (k ≤ n .0) × PrefixFrom k (server (tableIn
 abbrev μ-loop : tie.MeasureT-loop
 μ-loop t i j n ok₀ k₀ ok k = n .0 - k
 
-length-of-requires : tie.Need-length-of-requires Inv-loop μ-loop
-length-of-requires c κs = search needs
-
-length-of-requires-2 : tie.Need-length-of-requires-2 Inv-loop μ-loop
-length-of-requires-2 c κs = search needs
-
-position-below-requires : tie.Need-position-below-requires Inv-loop μ-loop
-position-below-requires c κs = search needs
-
 returns : tie.Need-returns Inv-loop μ-loop
 returns c = search (needs, prefix-long)
 
 loop-holds : tie.Need-loop-holds Inv-loop μ-loop
 loop-holds c = search (needs, prefix-none)
-
-add-k : tie.Need-add-k Inv-loop μ-loop
-add-k c = search needs
-
-entry-of-requires : tie.Need-entry-of-requires Inv-loop μ-loop
-entry-of-requires c κs = search needs
-
-entry-of-requires-2 : tie.Need-entry-of-requires-2 Inv-loop μ-loop
-entry-of-requires-2 c κs = search needs
-
-term-is-requires : tie.Need-term-is-requires Inv-loop μ-loop
-term-is-requires c κs = search needs
-
-loop-less : tie.Need-loop-less Inv-loop μ-loop
-loop-less c = search needs
 
 loop-again : tie.Need-loop-again Inv-loop μ-loop
 unfolding nth
@@ -58,15 +34,15 @@ is-prefix-spec =
     (tie.spec
     Inv-loop
     μ-loop
-    length-of-requires
-    length-of-requires-2
-    position-below-requires
+    (λ c κs. search needs)
+    (λ c κs. search needs)
+    (λ c κs. search needs)
     returns
     loop-holds
-    add-k
-    entry-of-requires
-    entry-of-requires-2
-    term-is-requires
-    loop-less
+    (λ c. search needs)
+    (λ c κs. search needs)
+    (λ c κs. search needs)
+    (λ c κs. search needs)
+    (λ c. search needs)
     loop-again
     returns-2)

@@ -4,11 +4,8 @@ use Rattle.comparisons.proofs.FigureLaws.{other-told}
 use Rattle.comparisons.proofs.lacks_role.Statement.{statement}
 use Rattle.comparisons.proofs.lacks_role.Tie as tie
 
-role-of-requires : tie.Need-role-of-requires
-role-of-requires c κs = search needs
-
 returns : tie.Need-returns
 returns c = search (needs, other-told)
 
 pub lacks-role-spec : {M : Type 1} → statement M
-lacks-role-spec = tie.close (tie.spec role-of-requires returns)
+lacks-role-spec = tie.close (tie.spec (λ c κs. search needs) returns)

@@ -13,23 +13,8 @@ returns-2 c = search (needs, no-server)
 returns-3 : tie.Need-returns-3
 returns-3 c = search (needs, too-many)
 
-cast-is-within : tie.Need-cast-is-within
-cast-is-within c = search needs
-
-is-within-requires : tie.Need-is-within-requires
-is-within-requires c κs = search needs
-
-cast-fill-fresh : tie.Need-cast-fill-fresh
-cast-fill-fresh c = search needs
-
 cast-fill-fresh-2 : tie.Need-cast-fill-fresh-2
 cast-fill-fresh-2 c = search (needs, set-fits)
-
-fill-fresh-requires : tie.Need-fill-fresh-requires
-fill-fresh-requires c κs = search needs
-
-same-length : tie.Need-same-length
-same-length c = search needs
 
 returns-4 : tie.Need-returns-4
 returns-4 c = search (needs, filled)
@@ -44,11 +29,11 @@ kyntulei-fresh-spec =
     returns
     returns-2
     returns-3
-    cast-is-within
-    is-within-requires
-    cast-fill-fresh
+    (λ c. search needs)
+    (λ c κs. search needs)
+    (λ c. search needs)
     cast-fill-fresh-2
-    fill-fresh-requires
-    same-length
+    (λ c κs. search needs)
+    (λ c. search needs)
     returns-4
     returns-5)

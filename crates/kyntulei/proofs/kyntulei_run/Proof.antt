@@ -5,20 +5,8 @@ use Rattle.kyntulei.proofs.CallLaws.{ready, run-answer, run-broken}
 use Rattle.kyntulei.proofs.kyntulei_run.Statement.{statement}
 use Rattle.kyntulei.proofs.kyntulei_run.Tie as tie
 
-is-whole-requires : tie.Need-is-whole-requires
-is-whole-requires c κs = search needs
-
 run-requires : tie.Need-run-requires
 run-requires c κs = search (needs, ready)
-
-refuse-all-requires : tie.Need-refuse-all-requires
-refuse-all-requires c κs = search needs
-
-same-length : tie.Need-same-length
-same-length c = search needs
-
-same-length-2 : tie.Need-same-length-2
-same-length-2 c = search needs
 
 returns : tie.Need-returns
 returns c =
@@ -28,12 +16,6 @@ returns c =
     (c .before .before .before .before .run .ensures)
     refl
 
-same-length-3 : tie.Need-same-length-3
-same-length-3 c = search needs
-
-same-length-4 : tie.Need-same-length-4
-same-length-4 c = search needs
-
 returns-2 : tie.Need-returns-2
 returns-2 c = search (needs, run-broken)
 
@@ -41,12 +23,12 @@ pub kyntulei-run-spec : {M : Type 1} → statement M
 kyntulei-run-spec =
     tie.close
     (tie.spec
-    is-whole-requires
+    (λ c κs. search needs)
     run-requires
-    refuse-all-requires
-    same-length
-    same-length-2
+    (λ c κs. search needs)
+    (λ c. search needs)
+    (λ c. search needs)
     returns
-    same-length-3
-    same-length-4
+    (λ c. search needs)
+    (λ c. search needs)
     returns-2)

@@ -13,12 +13,6 @@ use Rattle.members.proofs.Masks.{member-above, member-pred}
 returns : tie.Need-returns
 returns c = ⊎-elim (λ w. ap (λ (s : ℕ). member s (c .before .args .m)) (sym (w .taken))) (λ w. sym (member-above 16 (c .before .args .s) (omega arith) (omega (arith, ltb-true)))) (c .if1 .came)
 
-sub-result : tie.Need-sub-result
-sub-result c = search needs
-
-cast-result : tie.Need-cast-result
-cast-result c = search needs
-
 shr-result : tie.Need-shr-result
 shr-result c = omega (arith, ltb-false)
 
@@ -26,4 +20,4 @@ returns-2 : tie.Need-returns-2
 returns-2 c = member-pred (c .before .before .args .s) (c .before .before .args .m) (omega arith)
 
 pub is-member-spec : {M : Type 1} → statement M
-is-member-spec = tie.close (tie.spec returns sub-result cast-result shr-result returns-2)
+is-member-spec = tie.close (tie.spec returns (λ c. search needs) (λ c. search needs) shr-result returns-2)

@@ -9,9 +9,6 @@ use Rattle.members.proofs.is_within.Statement.{statement}
 use Rattle.members.proofs.is_within.Tie as tie
 use Rattle.members.proofs.Masks.{none-above}
 
-shr-result : tie.Need-shr-result
-shr-result c = search needs
-
 returns : tie.Need-returns
 returns c =
     let n = c .before .before .args .n in
@@ -26,4 +23,4 @@ returns-3 : tie.Need-returns-3
 returns-3 c = rw (le-ltb 0 (c .before .args .m) (omega arith))
 
 pub is-within-spec : {M : Type 1} → statement M
-is-within-spec = tie.close (tie.spec shr-result returns returns-2 returns-3)
+is-within-spec = tie.close (tie.spec (λ c. search needs) returns returns-2 returns-3)

@@ -12,12 +12,6 @@ use Rattle.members.proofs.with_next.Tie as tie
 shifted : (k : ℕ) → k < 16 → (1 * 2 ^ k) % 2 ^ 16 ≡ 1 * 2 ^ k
 shifted k h = shl-exact {a = 1} 1 k 16 (lit< tt) (omega arith)
 
-cast-result : tie.Need-cast-result
-cast-result c = search needs
-
-shl-result : tie.Need-shl-result
-shl-result c = search needs
-
 add-result : tie.Need-add-result
 add-result c =
     let k = c .before .args .k in
@@ -30,4 +24,4 @@ returns-2 : tie.Need-returns-2
 returns-2 c = rw (c .if1 .left) (omega arith)
 
 pub with-next-spec : {M : Type 1} → statement M
-with-next-spec = tie.close (tie.spec cast-result shl-result add-result returns returns-2)
+with-next-spec = tie.close (tie.spec (λ c. search needs) (λ c. search needs) add-result returns returns-2)

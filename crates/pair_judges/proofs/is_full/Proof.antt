@@ -4,11 +4,8 @@ use Rattle.pair_judges.proofs.LogLaws.{full-told}
 use Rattle.pair_judges.proofs.is_full.Statement.{statement}
 use Rattle.pair_judges.proofs.is_full.Tie as tie
 
-length-of-requires : tie.Need-length-of-requires
-length-of-requires c κs = search needs
-
 returns : tie.Need-returns
 returns c = search (needs, full-told)
 
 pub is-full-spec : {M : Type 1} → statement M
-is-full-spec = tie.close (tie.spec length-of-requires returns)
+is-full-spec = tie.close (tie.spec (λ c κs. search needs) returns)

@@ -4,14 +4,8 @@ use Rattle.words.proofs.RefusalLaws.{judging}
 use Rattle.pair_judges.proofs.judge_roll_back.Statement.{statement}
 use Rattle.pair_judges.proofs.judge_roll_back.Tie as tie
 
-lacks-role-requires : tie.Need-lacks-role-requires
-lacks-role-requires c κs = search needs
-
 returns : tie.Need-returns
 returns c = search judging depth 9
-
-cannot-roll-back-requires : tie.Need-cannot-roll-back-requires
-cannot-roll-back-requires c κs = search needs
 
 returns-2 : tie.Need-returns-2
 returns-2 c = search judging depth 9
@@ -21,4 +15,4 @@ returns-3 c = search judging depth 9
 
 pub judge-roll-back-spec : {M : Type 1} → statement M
 judge-roll-back-spec =
-    tie.close (tie.spec lacks-role-requires returns cannot-roll-back-requires returns-2 returns-3)
+    tie.close (tie.spec (λ c κs. search needs) returns (λ c κs. search needs) returns-2 returns-3)

@@ -4,9 +4,6 @@ use Rattle.words.proofs.RefusalLaws.{judging}
 use Rattle.pair_judges.proofs.judge_spread.Statement.{statement}
 use Rattle.pair_judges.proofs.judge_spread.Tie as tie
 
-larger-term-requires : tie.Need-larger-term-requires
-larger-term-requires c κs = search needs
-
 returns : tie.Need-returns
 returns c = search judging depth 9
 
@@ -14,4 +11,4 @@ returns-2 : tie.Need-returns-2
 returns-2 c = search judging depth 9
 
 pub judge-spread-spec : {M : Type 1} → statement M
-judge-spread-spec = tie.close (tie.spec larger-term-requires returns returns-2)
+judge-spread-spec = tie.close (tie.spec (λ c κs. search needs) returns returns-2)

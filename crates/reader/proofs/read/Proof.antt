@@ -4,12 +4,6 @@ use Rattle.reader.proofs.ReplyLaws.{read-sized, read-few, read-named, r
 use Rattle.reader.proofs.read.Statement.{statement}
 use Rattle.reader.proofs.read.Tie as tie
 
-judge-requires : tie.Need-judge-requires
-judge-requires c κs = search needs
-
-same-length : tie.Need-same-length
-same-length c = search needs
-
 returns : tie.Need-returns
 returns c = record { reply = search needs; bytes = search (needs, kept-bytes); end = search (needs, kept-end) }
 
@@ -18,9 +12,6 @@ fill-requires c κs = (search (needs, read-sized), (search (needs, read-few), se
 
 end-of-requires : tie.Need-end-of-requires
 end-of-requires c κs = search (needs, read-named)
-
-same-length-2 : tie.Need-same-length-2
-same-length-2 c = search needs
 
 returns-2 : tie.Need-returns-2
 returns-2 c =
@@ -34,10 +25,10 @@ pub read-spec : {M : Type 1} → statement M
 read-spec =
     tie.close
     (tie.spec
-    judge-requires
-    same-length
+    (λ c κs. search needs)
+    (λ c. search needs)
     returns
     fill-requires
     end-of-requires
-    same-length-2
+    (λ c. search needs)
     returns-2)

@@ -4,11 +4,8 @@ use Rattle.set_judges.proofs.SetLaws.{last-told}
 use Rattle.set_judges.proofs.is_last_version.Statement.{statement}
 use Rattle.set_judges.proofs.is_last_version.Tie as tie
 
-version-of-requires : tie.Need-version-of-requires
-version-of-requires c κs = search needs
-
 returns : tie.Need-returns
 returns c = search (needs, last-told)
 
 pub is-last-version-spec : {M : Type 1} → statement M
-is-last-version-spec = tie.close (tie.spec version-of-requires returns)
+is-last-version-spec = tie.close (tie.spec (λ c κs. search needs) returns)

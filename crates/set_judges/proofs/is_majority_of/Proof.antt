@@ -4,14 +4,8 @@ use Rattle.set_judges.proofs.SetLaws.{majority-told}
 use Rattle.set_judges.proofs.is_majority_of.Statement.{statement}
 use Rattle.set_judges.proofs.is_majority_of.Tie as tie
 
-set-of-requires : tie.Need-set-of-requires
-set-of-requires c κs = search needs
-
-is-majority-requires : tie.Need-is-majority-requires
-is-majority-requires c κs = search needs
-
 returns : tie.Need-returns
 returns c = search (needs, majority-told)
 
 pub is-majority-of-spec : {M : Type 1} → statement M
-is-majority-of-spec = tie.close (tie.spec set-of-requires is-majority-requires returns)
+is-majority-of-spec = tie.close (tie.spec (λ c κs. search needs) (λ c κs. search needs) returns)

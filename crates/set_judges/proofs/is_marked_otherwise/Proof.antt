@@ -4,21 +4,12 @@ use Rattle.set_judges.proofs.SetLaws.{has-entry, otherwise-told}
 use Rattle.set_judges.proofs.is_marked_otherwise.Statement.{statement}
 use Rattle.set_judges.proofs.is_marked_otherwise.Tie as tie
 
-length-of-requires : tie.Need-length-of-requires
-length-of-requires c κs = search needs
-
 mark-of-requires : tie.Need-mark-of-requires
 mark-of-requires c κs = search (needs, has-entry)
-
-term-of-requires : tie.Need-term-of-requires
-term-of-requires c κs = search needs
-
-term-is-requires : tie.Need-term-is-requires
-term-is-requires c κs = search needs
 
 returns : tie.Need-returns
 returns c = search (needs, otherwise-told)
 
 pub is-marked-otherwise-spec : {M : Type 1} → statement M
 is-marked-otherwise-spec =
-    tie.close (tie.spec length-of-requires mark-of-requires term-of-requires term-is-requires returns)
+    tie.close (tie.spec (λ c κs. search needs) mark-of-requires (λ c κs. search needs) (λ c κs. search needs) returns)

@@ -4,14 +4,8 @@ use Rattle.set_judges.proofs.SetLaws.{apart-told}
 use Rattle.set_judges.proofs.is_one_away.Statement.{statement}
 use Rattle.set_judges.proofs.is_one_away.Tie as tie
 
-set-of-requires : tie.Need-set-of-requires
-set-of-requires c κs = search needs
-
-is-one-apart-requires : tie.Need-is-one-apart-requires
-is-one-apart-requires c κs = search needs
-
 returns : tie.Need-returns
 returns c = search (needs, apart-told)
 
 pub is-one-away-spec : {M : Type 1} → statement M
-is-one-away-spec = tie.close (tie.spec set-of-requires is-one-apart-requires returns)
+is-one-away-spec = tie.close (tie.spec (λ c κs. search needs) (λ c κs. search needs) returns)

@@ -4,20 +4,8 @@ use Rattle.set_judges.proofs.SetLaws.{weighing}
 use Rattle.set_judges.proofs.judge_elect.Statement.{statement}
 use Rattle.set_judges.proofs.judge_elect.Tie as tie
 
-is-majority-of-requires : tie.Need-is-majority-of-requires
-is-majority-of-requires c κs = search needs
-
-cast-is-member : tie.Need-cast-is-member
-cast-is-member c = search needs
-
-is-member-requires : tie.Need-is-member-requires
-is-member-requires c κs = search needs
-
 returns : tie.Need-returns
 returns c = search weighing depth 9
-
-poll-requires : tie.Need-poll-requires
-poll-requires c κs = search needs
 
 returns-2 : tie.Need-returns-2
 returns-2 c = search weighing depth 9
@@ -27,9 +15,6 @@ returns-3 c = search weighing depth 9
 
 returns-4 : tie.Need-returns-4
 returns-4 c = search weighing depth 9
-
-is-last-term-requires : tie.Need-is-last-term-requires
-is-last-term-requires c κs = search needs
 
 returns-5 : tie.Need-returns-5
 returns-5 c = search weighing depth 9
@@ -41,14 +26,14 @@ pub judge-elect-spec : {M : Type 1} → statement M
 judge-elect-spec =
     tie.close
     (tie.spec
-    is-majority-of-requires
-    cast-is-member
-    is-member-requires
+    (λ c κs. search needs)
+    (λ c. search needs)
+    (λ c κs. search needs)
     returns
-    poll-requires
+    (λ c κs. search needs)
     returns-2
     returns-3
     returns-4
-    is-last-term-requires
+    (λ c κs. search needs)
     returns-5
     returns-6)

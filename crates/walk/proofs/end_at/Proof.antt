@@ -5,18 +5,6 @@ use Rattle.walk.specs.Plan.{placeBehind, behind}
 use Rattle.walk.proofs.end_at.Statement.{statement}
 use Rattle.walk.proofs.end_at.Tie as tie
 
-found-at-requires : tie.Need-found-at-requires
-found-at-requires c κs = search needs
-
-enum-known-end : tie.Need-enum-known-end
-enum-known-end c = search needs
-
-enum-known-end-2 : tie.Need-enum-known-end-2
-enum-known-end-2 c = search needs
-
-enum-told : tie.Need-enum-told
-enum-told c = search needs
-
 returns : tie.Need-returns
 unfolding behind
 returns c = ap (placeBehind _) (sym (c .before .end .given .1) ∙ c .before .before .before .found-at .ensures)
@@ -30,4 +18,4 @@ unfolding behind
 returns-3 c = ap (placeBehind _) (sym (c .enum-told .given .1) ∙ c .before .before .found-at .ensures)
 
 pub end-at-spec : {M : Type 1} → statement M
-end-at-spec = tie.close (tie.spec found-at-requires enum-known-end enum-known-end-2 enum-told returns returns-2 returns-3)
+end-at-spec = tie.close (tie.spec (λ c κs. search needs) (λ c. search needs) (λ c. search needs) (λ c. search needs) returns returns-2 returns-3)

@@ -7,20 +7,11 @@ use Rattle.whole.proofs.is_whole.Tie as tie
 returns : tie.Need-returns
 returns c = search other-length
 
-word-requires : tie.Need-word-requires
-word-requires c κs = search needs
-
 returns-2 : tie.Need-returns-2
 returns-2 c = search no-server
 
 returns-3 : tie.Need-returns-3
 returns-3 c = search too-many
-
-cast-words-sound : tie.Need-cast-words-sound
-cast-words-sound c = search needs
-
-words-sound-requires : tie.Need-words-sound-requires
-words-sound-requires c κs = search needs
 
 returns-4 : tie.Need-returns-4
 returns-4 c =
@@ -37,9 +28,9 @@ is-whole-spec =
     tie.close
     (tie.spec
     returns
-    word-requires
+    (λ c κs. search needs)
     returns-2
     returns-3
-    cast-words-sound
-    words-sound-requires
+    (λ c. search needs)
+    (λ c κs. search needs)
     returns-4)

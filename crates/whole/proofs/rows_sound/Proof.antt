@@ -15,18 +15,6 @@ abbrev μ-loop : tie.MeasureT-loop
 loop-holds : tie.Need-loop-holds Inv-loop μ-loop
 loop-holds c = (search needs, rows-none _ _)
 
-add-k : tie.Need-add-k Inv-loop μ-loop
-add-k c = search needs
-
-cast-row-sound : tie.Need-cast-row-sound Inv-loop μ-loop
-cast-row-sound c = search needs
-
-row-sound-requires : tie.Need-row-sound-requires Inv-loop μ-loop
-row-sound-requires c κs = search needs
-
-loop-less : tie.Need-loop-less Inv-loop μ-loop
-loop-less c = search needs
-
 loop-again : tie.Need-loop-again Inv-loop μ-loop
 loop-again c = (search needs, search rows-more)
 
@@ -40,9 +28,9 @@ rows-sound-spec =
     Inv-loop
     μ-loop
     loop-holds
-    add-k
-    cast-row-sound
-    row-sound-requires
-    loop-less
+    (λ c. search needs)
+    (λ c. search needs)
+    (λ c κs. search needs)
+    (λ c. search needs)
     loop-again
     returns)

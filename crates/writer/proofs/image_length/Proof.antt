@@ -13,29 +13,8 @@ Inv-loop t n at₀ e₀ at e = (e ≤ n + 1) × (n ≤ mostServers) × Placed (t
 abbrev μ-loop : tie.MeasureT-loop
 μ-loop t n at₀ e₀ at e = n + 1 - e
 
-count-of-requires : tie.Need-count-of-requires Inv-loop μ-loop
-count-of-requires c κs = search needs
-
-cast-n : tie.Need-cast-n Inv-loop μ-loop
-cast-n c = search needs
-
-first-body-requires : tie.Need-first-body-requires Inv-loop μ-loop
-first-body-requires c κs = search needs
-
 loop-holds : tie.Need-loop-holds Inv-loop μ-loop
 loop-holds c = (search needs, search (needs, few-servers), search (needs, placed-none))
-
-size-of-requires : tie.Need-size-of-requires Inv-loop μ-loop
-size-of-requires c κs = search needs
-
-add-at : tie.Need-add-at Inv-loop μ-loop
-add-at c = search needs
-
-add-e : tie.Need-add-e Inv-loop μ-loop
-add-e c = search needs
-
-loop-less : tie.Need-loop-less Inv-loop μ-loop
-loop-less c = search needs
 
 loop-again : tie.Need-loop-again Inv-loop μ-loop
 loop-again c = (search needs, search needs, search (needs, placed-more))
@@ -49,13 +28,13 @@ image-length-spec =
     (tie.spec
     Inv-loop
     μ-loop
-    count-of-requires
-    cast-n
-    first-body-requires
+    (λ c κs. search needs)
+    (λ c. search needs)
+    (λ c κs. search needs)
     loop-holds
-    size-of-requires
-    add-at
-    add-e
-    loop-less
+    (λ c κs. search needs)
+    (λ c. search needs)
+    (λ c. search needs)
+    (λ c. search needs)
     loop-again
     returns)

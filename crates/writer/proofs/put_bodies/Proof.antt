@@ -13,41 +13,17 @@ Inv-loop buffer₀ from t n at₀ e₀ buffer at e = (e ≤ n + 1) × (n ≤ mos
 abbrev μ-loop : tie.MeasureT-loop
 μ-loop buffer₀ from t n at₀ e₀ buffer at e = n + 1 - e
 
-count-of-requires : tie.Need-count-of-requires Inv-loop μ-loop
-count-of-requires c κs = search needs
-
-cast-n : tie.Need-cast-n Inv-loop μ-loop
-cast-n c = search needs
-
 loop-holds : tie.Need-loop-holds Inv-loop μ-loop
 loop-holds c = (search needs, search (needs, few-servers), bodied-none _ _ _ (search needs))
-
-sub-put-body : tie.Need-sub-put-body Inv-loop μ-loop
-sub-put-body c = search needs
 
 part-put-body-start : tie.Need-part-put-body-start Inv-loop μ-loop
 part-put-body-start c = search (needs, body-start)
 
-part-put-body-end : tie.Need-part-put-body-end Inv-loop μ-loop
-part-put-body-end c = search needs
-
 put-body-requires : tie.Need-put-body-requires Inv-loop μ-loop
 put-body-requires c κs = (search needs, (search needs, search (needs, body-room)))
 
-add-at : tie.Need-add-at Inv-loop μ-loop
-add-at c = search needs
-
-add-e : tie.Need-add-e Inv-loop μ-loop
-add-e c = search needs
-
-loop-less : tie.Need-loop-less Inv-loop μ-loop
-loop-less c = search needs
-
 loop-again : tie.Need-loop-again Inv-loop μ-loop
 loop-again c = (search needs, search needs, search (needs, bodied-more))
-
-same-length : tie.Need-same-length Inv-loop μ-loop
-same-length c = search needs
 
 returns : tie.Need-returns Inv-loop μ-loop
 returns c = search (needs, bodied-all)
@@ -58,16 +34,16 @@ put-bodies-spec =
     (tie.spec
     Inv-loop
     μ-loop
-    count-of-requires
-    cast-n
+    (λ c κs. search needs)
+    (λ c. search needs)
     loop-holds
-    sub-put-body
+    (λ c. search needs)
     part-put-body-start
-    part-put-body-end
+    (λ c. search needs)
     put-body-requires
-    add-at
-    add-e
-    loop-less
+    (λ c. search needs)
+    (λ c. search needs)
+    (λ c. search needs)
     loop-again
-    same-length
+    (λ c. search needs)
     returns)

@@ -13,35 +13,8 @@ Inv-loop buffer₀ from t n end₀ at₀ e₀ buffer end at e = (e ≤ n + 1) ×
 abbrev μ-loop : tie.MeasureT-loop
 μ-loop buffer₀ from t n end₀ at₀ e₀ buffer end at e = n + 1 - e
 
-count-of-requires : tie.Need-count-of-requires Inv-loop μ-loop
-count-of-requires c κs = search needs
-
-cast-n : tie.Need-cast-n Inv-loop μ-loop
-cast-n c = search needs
-
-first-body-requires : tie.Need-first-body-requires Inv-loop μ-loop
-first-body-requires c κs = search needs
-
 loop-holds : tie.Need-loop-holds Inv-loop μ-loop
 loop-holds c = (search needs, search (needs, few-servers), search (needs, placed-none), entered-none _ _ _ (search needs))
-
-size-of-requires : tie.Need-size-of-requires Inv-loop μ-loop
-size-of-requires c κs = search needs
-
-put-half-requires : tie.Need-put-half-requires Inv-loop μ-loop
-put-half-requires c κs = search needs
-
-put-half-requires-2 : tie.Need-put-half-requires-2 Inv-loop μ-loop
-put-half-requires-2 c κs = search needs
-
-add-at : tie.Need-add-at Inv-loop μ-loop
-add-at c = search needs
-
-add-e : tie.Need-add-e Inv-loop μ-loop
-add-e c = search needs
-
-loop-less : tie.Need-loop-less Inv-loop μ-loop
-loop-less c = search needs
 
 loop-again : tie.Need-loop-again Inv-loop μ-loop
 loop-again c =
@@ -57,9 +30,6 @@ loop-again c =
       entered-more _ _ _ _ _ _ _ counted entered _ _ _ _ _ _ (turn .loop-test .taken) placed (sized .size-of .ensures .0) (first .put-half .ensures) (second .put-half2 .ensures),
     )
 
-same-length : tie.Need-same-length Inv-loop μ-loop
-same-length c = search needs
-
 returns : tie.Need-returns Inv-loop μ-loop
 returns c = search (needs, entered-all)
 
@@ -69,16 +39,16 @@ put-contents-spec =
     (tie.spec
     Inv-loop
     μ-loop
-    count-of-requires
-    cast-n
-    first-body-requires
+    (λ c κs. search needs)
+    (λ c. search needs)
+    (λ c κs. search needs)
     loop-holds
-    size-of-requires
-    put-half-requires
-    put-half-requires-2
-    add-at
-    add-e
-    loop-less
+    (λ c κs. search needs)
+    (λ c κs. search needs)
+    (λ c κs. search needs)
+    (λ c. search needs)
+    (λ c. search needs)
+    (λ c. search needs)
     loop-again
-    same-length
+    (λ c. search needs)
     returns)

@@ -4,9 +4,6 @@ use Rattle.writer.proofs.PlaceLaws.{opening-room, contents-room, bodies
 use Rattle.writer.proofs.put_image.Statement.{statement}
 use Rattle.writer.proofs.put_image.Tie as tie
 
-count-of-requires : tie.Need-count-of-requires
-count-of-requires c κs = search needs
-
 put-opening-requires : tie.Need-put-opening-requires
 put-opening-requires c κs = search (needs, opening-room)
 
@@ -16,9 +13,6 @@ put-contents-requires c κs = (search needs, search (needs, contents-room))
 put-bodies-requires : tie.Need-put-bodies-requires
 put-bodies-requires c κs = (search needs, search (needs, bodies-room))
 
-same-length : tie.Need-same-length
-same-length c = search needs
-
 returns : tie.Need-returns
 returns c = search (needs, image-wrote)
 
@@ -26,9 +20,9 @@ pub put-image-spec : {M : Type 1} → statement M
 put-image-spec =
     tie.close
     (tie.spec
-    count-of-requires
+    (λ c κs. search needs)
     put-opening-requires
     put-contents-requires
     put-bodies-requires
-    same-length
+    (λ c. search needs)
     returns)

@@ -4,9 +4,6 @@ use Rattle.writer.proofs.WriteLaws.{savable, no-table, no-room, written
 use Rattle.writer.proofs.write.Statement.{statement}
 use Rattle.writer.proofs.write.Tie as tie
 
-is-whole-requires : tie.Need-is-whole-requires
-is-whole-requires c κs = search needs
-
 returns : tie.Need-returns
 returns c = search (needs, no-table)
 
@@ -19,9 +16,6 @@ returns-2 c = search (needs, no-room)
 put-image-requires : tie.Need-put-image-requires
 put-image-requires c κs = (search (needs, savable), search needs)
 
-same-length : tie.Need-same-length
-same-length c = search needs
-
 returns-3 : tie.Need-returns-3
 returns-3 c = search (needs, written)
 
@@ -29,10 +23,10 @@ pub write-spec : {M : Type 1} → statement M
 write-spec =
     tie.close
     (tie.spec
-    is-whole-requires
+    (λ c κs. search needs)
     returns
     image-length-requires
     returns-2
     put-image-requires
-    same-length
+    (λ c. search needs)
     returns-3)

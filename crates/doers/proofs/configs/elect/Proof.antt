@@ -7,26 +7,8 @@ use Rattle.doers.proofs.VoteLaws.{elect-put}
 use Rattle.doers.proofs.configs.elect.Statement.{statement}
 use Rattle.doers.proofs.configs.elect.Tie as tie
 
-row-of-requires : tie.Need-row-of-requires
-row-of-requires c κs = search needs
-
 add-term : tie.Need-add-term
 add-term c = omega (arith, ap (λ (a : Row). a .figures .term .0) (c .before .row-of .ensures .0))
-
-cast-set : tie.Need-cast-set
-cast-set c = search needs
-
-vote-requires : tie.Need-vote-requires
-vote-requires c κs = search needs
-
-put-standing-requires : tie.Need-put-standing-requires
-put-standing-requires c κs = search needs
-
-put-config-requires : tie.Need-put-config-requires
-put-config-requires c κs = search needs
-
-same-length : tie.Need-same-length
-same-length c = search needs
 
 returns : tie.Need-returns
 returns c =
@@ -41,11 +23,11 @@ pub elect-spec : {M : Type 1} → statement M
 elect-spec =
     tie.close
     (tie.spec
-    row-of-requires
+    (λ c κs. search needs)
     add-term
-    cast-set
-    vote-requires
-    put-standing-requires
-    put-config-requires
-    same-length
+    (λ c. search needs)
+    (λ c κs. search needs)
+    (λ c κs. search needs)
+    (λ c κs. search needs)
+    (λ c. search needs)
     returns)

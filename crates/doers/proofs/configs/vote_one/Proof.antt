@@ -4,12 +4,6 @@ use Rattle.doers.proofs.VoteLaws.{vote-yes, vote-no}
 use Rattle.doers.proofs.configs.vote_one.Statement.{statement}
 use Rattle.doers.proofs.configs.vote_one.Tie as tie
 
-step-down-requires : tie.Need-step-down-requires
-step-down-requires c κs = search needs
-
-same-length : tie.Need-same-length
-same-length c = search needs
-
 returns : tie.Need-returns
 returns c = search (needs, vote-yes)
 
@@ -17,4 +11,4 @@ returns-2 : tie.Need-returns-2
 returns-2 c = search (needs, vote-no)
 
 pub vote-one-spec : {M : Type 1} → statement M
-vote-one-spec = tie.close (tie.spec step-down-requires same-length returns returns-2)
+vote-one-spec = tie.close (tie.spec (λ c κs. search needs) (λ c. search needs) returns returns-2)

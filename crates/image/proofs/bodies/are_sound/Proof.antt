@@ -13,20 +13,11 @@ Inv-loop image n ok₀ e₀ ok e = (e ≤ n + 1) × Tested (soundAt image) e ok
 abbrev μ-loop : tie.MeasureT-loop
 μ-loop image n ok₀ e₀ ok e = n + 1 - e
 
-count-of-requires : tie.Need-count-of-requires Inv-loop μ-loop
-count-of-requires c κs = search needs
-
 loop-holds : tie.Need-loop-holds Inv-loop μ-loop
 loop-holds c = (search needs, tested-none _)
 
 body-sound-requires : tie.Need-body-sound-requires Inv-loop μ-loop
 body-sound-requires c κs = search (needs, name-at)
-
-add-e : tie.Need-add-e Inv-loop μ-loop
-add-e c = search needs
-
-loop-less : tie.Need-loop-less Inv-loop μ-loop
-loop-less c = search needs
 
 loop-again : tie.Need-loop-again Inv-loop μ-loop
 loop-again c = (search needs, search (needs, tested-more))
@@ -40,10 +31,10 @@ are-sound-spec =
     (tie.spec
     Inv-loop
     μ-loop
-    count-of-requires
+    (λ c κs. search needs)
     loop-holds
     body-sound-requires
-    add-e
-    loop-less
+    (λ c. search needs)
+    (λ c. search needs)
     loop-again
     returns)

@@ -4,14 +4,8 @@ use Rattle.image.proofs.ContentsLaws.{has-length}
 use Rattle.image.proofs.contents.may_have.Statement.{statement}
 use Rattle.image.proofs.contents.may_have.Tie as tie
 
-fixed-of-requires : tie.Need-fixed-of-requires
-fixed-of-requires c κs = search needs
-
-add-result : tie.Need-add-result
-add-result c = search needs
-
 returns : tie.Need-returns
 returns c = search (needs, has-length)
 
 pub may-have-spec : {M : Type 1} → statement M
-may-have-spec = tie.close (tie.spec fixed-of-requires add-result returns)
+may-have-spec = tie.close (tie.spec (λ c κs. search needs) (λ c. search needs) returns)

@@ -17,26 +17,8 @@ Inv-loop t i from n term some₀ k₀ some k =
 abbrev μ-loop : tie.MeasureT-loop
 μ-loop t i from n term some₀ k₀ some k = n - k
 
-term-of-requires : tie.Need-term-of-requires Inv-loop μ-loop
-term-of-requires c κs = search needs
-
 loop-holds : tie.Need-loop-holds Inv-loop μ-loop
 loop-holds c = search (needs, marked-none)
-
-add-k : tie.Need-add-k Inv-loop μ-loop
-add-k c = search needs
-
-add-t10 : tie.Need-add-t10 Inv-loop μ-loop
-add-t10 c = search needs
-
-mark-of-requires : tie.Need-mark-of-requires Inv-loop μ-loop
-mark-of-requires c κs = search needs
-
-term-is-requires : tie.Need-term-is-requires Inv-loop μ-loop
-term-is-requires c κs = search needs
-
-loop-less : tie.Need-loop-less Inv-loop μ-loop
-loop-less c = search needs
 
 loop-again : tie.Need-loop-again Inv-loop μ-loop
 loop-again c = search (needs, marked-next)
@@ -50,12 +32,12 @@ is-marked-spec =
     (tie.spec
     Inv-loop
     μ-loop
-    term-of-requires
+    (λ c κs. search needs)
     loop-holds
-    add-k
-    add-t10
-    mark-of-requires
-    term-is-requires
-    loop-less
+    (λ c. search needs)
+    (λ c. search needs)
+    (λ c κs. search needs)
+    (λ c κs. search needs)
+    (λ c. search needs)
     loop-again
     returns)

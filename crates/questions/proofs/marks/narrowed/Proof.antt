@@ -14,26 +14,11 @@ Inv-loop t i q from m₀ k₀ m k = (k ≤ 8) × (m ≡ narrowedPast from k (tab
 abbrev μ-loop : tie.MeasureT-loop
 μ-loop t i q from m₀ k₀ m k = 8 - k
 
-is-marked-requires : tie.Need-is-marked-requires Inv-loop μ-loop
-is-marked-requires c κs = search needs
-
 returns : tie.Need-returns Inv-loop μ-loop
 returns c = search (needs, past-unmarked)
 
 loop-holds : tie.Need-loop-holds Inv-loop μ-loop
 loop-holds c = search (needs, past-none)
-
-add-k : tie.Need-add-k Inv-loop μ-loop
-add-k c = search needs
-
-add-t10 : tie.Need-add-t10 Inv-loop μ-loop
-add-t10 c = search needs
-
-narrowed-at-requires : tie.Need-narrowed-at-requires Inv-loop μ-loop
-narrowed-at-requires c κs = search needs
-
-loop-less : tie.Need-loop-less Inv-loop μ-loop
-loop-less c = search needs
 
 loop-again : tie.Need-loop-again Inv-loop μ-loop
 loop-again c = search (needs, past-next)
@@ -47,12 +32,12 @@ narrowed-spec =
     (tie.spec
     Inv-loop
     μ-loop
-    is-marked-requires
+    (λ c κs. search needs)
     returns
     loop-holds
-    add-k
-    add-t10
-    narrowed-at-requires
-    loop-less
+    (λ c. search needs)
+    (λ c. search needs)
+    (λ c κs. search needs)
+    (λ c. search needs)
     loop-again
     returns-2)

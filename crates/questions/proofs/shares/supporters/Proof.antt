@@ -15,12 +15,6 @@ Inv-loop t i q p n m₀ k₀ m k = Turned (λ k. passing k (supportsAt (tableIn 
 abbrev μ-loop : tie.MeasureT-loop
 μ-loop t i q p n m₀ k₀ m k = n - k
 
-count-of-requires : tie.Need-count-of-requires Inv-loop μ-loop
-count-of-requires c κs = search needs
-
-cast-n : tie.Need-cast-n Inv-loop μ-loop
-cast-n c = search needs
-
 loop-holds : tie.Need-loop-holds Inv-loop μ-loop
 loop-holds c = search (needs, passing-none)
 
@@ -29,12 +23,6 @@ member-supports-requires c κs = (search needs, (search needs, (search needs, se
 
 with-next-requires : tie.Need-with-next-requires Inv-loop μ-loop
 with-next-requires c κs = search (needs, passing-fits)
-
-add-k : tie.Need-add-k Inv-loop μ-loop
-add-k c = search needs
-
-loop-less : tie.Need-loop-less Inv-loop μ-loop
-loop-less c = search needs
 
 loop-again : tie.Need-loop-again Inv-loop μ-loop
 loop-again c =
@@ -53,12 +41,12 @@ supporters-spec =
     (tie.spec
     Inv-loop
     μ-loop
-    count-of-requires
-    cast-n
+    (λ c κs. search needs)
+    (λ c. search needs)
     loop-holds
     member-supports-requires
     with-next-requires
-    add-k
-    loop-less
+    (λ c. search needs)
+    (λ c. search needs)
     loop-again
     returns)

@@ -4,26 +4,8 @@ use Rattle.report.proofs.LineLaws.{primary, secondary}
 use Rattle.report.proofs.parts.put_role.Statement.{statement}
 use Rattle.report.proofs.parts.put_role.Tie as tie
 
-slice-aggregate-put-word : tie.Need-slice-aggregate-put-word
-slice-aggregate-put-word c = search needs
-
-put-word-requires : tie.Need-put-word-requires
-put-word-requires c κs = search needs
-
-same-length : tie.Need-same-length
-same-length c = search needs
-
 returns : tie.Need-returns
 returns c = search (needs, primary)
-
-slice-aggregate-put-word-2 : tie.Need-slice-aggregate-put-word-2
-slice-aggregate-put-word-2 c = search needs
-
-put-word-requires-2 : tie.Need-put-word-requires-2
-put-word-requires-2 c κs = search needs
-
-same-length-2 : tie.Need-same-length-2
-same-length-2 c = search needs
 
 returns-2 : tie.Need-returns-2
 returns-2 c = search (needs, secondary)
@@ -32,11 +14,11 @@ pub put-role-spec : {M : Type 1} → statement M
 put-role-spec =
     tie.close
     (tie.spec
-    slice-aggregate-put-word
-    put-word-requires
-    same-length
+    (λ c. search needs)
+    (λ c κs. search needs)
+    (λ c. search needs)
     returns
-    slice-aggregate-put-word-2
-    put-word-requires-2
-    same-length-2
+    (λ c. search needs)
+    (λ c κs. search needs)
+    (λ c. search needs)
     returns-2)

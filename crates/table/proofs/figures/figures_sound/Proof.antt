@@ -4,11 +4,8 @@ use Rattle.table.proofs.FigureLaws.{figures-tell}
 use Rattle.table.proofs.figures.figures_sound.Statement.{statement}
 use Rattle.table.proofs.figures.figures_sound.Tie as tie
 
-is-within-requires : tie.Need-is-within-requires
-is-within-requires c κs = search needs
-
 returns : tie.Need-returns
 returns c = search (needs, figures-tell)
 
 pub figures-sound-spec : {M : Type 1} → statement M
-figures-sound-spec = tie.close (tie.spec is-within-requires returns)
+figures-sound-spec = tie.close (tie.spec (λ c κs. search needs) returns)

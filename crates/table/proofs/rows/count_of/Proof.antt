@@ -4,9 +4,6 @@ use Rattle.table.proofs.RowLaws.{count-small, count-read}
 use Rattle.table.proofs.rows.count_of.Statement.{statement}
 use Rattle.table.proofs.rows.count_of.Tie as tie
 
-word-requires : tie.Need-word-requires
-word-requires c κs = search needs
-
 cast-result : tie.Need-cast-result
 cast-result c = search count-small
 
@@ -14,4 +11,4 @@ returns : tie.Need-returns
 returns c = search count-read
 
 pub count-of-spec : {M : Type 1} → statement M
-count-of-spec = tie.close (tie.spec word-requires cast-result returns)
+count-of-spec = tie.close (tie.spec (λ c κs. search needs) cast-result returns)

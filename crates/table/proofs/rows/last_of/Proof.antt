@@ -3,11 +3,8 @@ use borrow.Author.Needs.{needs}
 use Rattle.table.proofs.rows.last_of.Statement.{statement}
 use Rattle.table.proofs.rows.last_of.Tie as tie
 
-row-of-requires : tie.Need-row-of-requires
-row-of-requires c κs = search needs
-
 returns : tie.Need-returns
 returns c = rw (c .before .row-of .ensures .0)
 
 pub last-of-spec : {M : Type 1} → statement M
-last-of-spec = tie.close (tie.spec row-of-requires returns)
+last-of-spec = tie.close (tie.spec (λ c κs. search needs) returns)

@@ -6,9 +6,6 @@ use Rattle.table.proofs.RowLaws.{log-short}
 use Rattle.table.proofs.rows.length_of.Statement.{statement}
 use Rattle.table.proofs.rows.length_of.Tie as tie
 
-field-requires : tie.Need-field-requires
-field-requires c κs = search needs
-
 cast-t4 : tie.Need-cast-t4
 cast-t4 c = let h : c .field .result ≤ 64 = search log-short in omega arith
 
@@ -16,4 +13,4 @@ returns : tie.Need-returns
 returns c = search log-short
 
 pub length-of-spec : {M : Type 1} → statement M
-length-of-spec = tie.close (tie.spec field-requires cast-t4 returns)
+length-of-spec = tie.close (tie.spec (λ c κs. search needs) cast-t4 returns)

@@ -4,20 +4,8 @@ use Rattle.table.proofs.RowLaws.{term-put}
 use Rattle.table.proofs.rows.put_term.Statement.{statement}
 use Rattle.table.proofs.rows.put_term.Tie as tie
 
-mul-put : tie.Need-mul-put
-mul-put c = search needs
-
-add-put : tie.Need-add-put
-add-put c = search needs
-
-put-requires : tie.Need-put-requires
-put-requires c κs = search needs
-
-same-length : tie.Need-same-length
-same-length c = search needs
-
 returns : tie.Need-returns
 returns c = search term-put
 
 pub put-term-spec : {M : Type 1} → statement M
-put-term-spec = tie.close (tie.spec mul-put add-put put-requires same-length returns)
+put-term-spec = tie.close (tie.spec (λ c. search needs) (λ c. search needs) (λ c κs. search needs) (λ c. search needs) returns)

@@ -4,17 +4,8 @@ use Rattle.table.proofs.StoredLaws.{held-stored}
 use Rattle.whole.proofs.fresh.fill_fresh.Statement.{statement}
 use Rattle.whole.proofs.fresh.fill_fresh.Tie as tie
 
-fill-blank-requires : tie.Need-fill-blank-requires
-fill-blank-requires c κs = search needs
-
-give-set-requires : tie.Need-give-set-requires
-give-set-requires c κs = search needs
-
-same-length : tie.Need-same-length
-same-length c = search needs
-
 returns : tie.Need-returns
 returns c = held-stored _ _ (λ i. c .slice-known3 .given i .fits) (search needs)
 
 pub fill-fresh-spec : {M : Type 1} → statement M
-fill-fresh-spec = tie.close (tie.spec fill-blank-requires give-set-requires same-length returns)
+fill-fresh-spec = tie.close (tie.spec (λ c κs. search needs) (λ c κs. search needs) (λ c. search needs) returns)

@@ -14,23 +14,11 @@ abbrev μ-loop : tie.MeasureT-loop
 loop-holds : tie.Need-loop-holds Inv-loop μ-loop
 loop-holds c = search given-none
 
-add-k : tie.Need-add-k Inv-loop μ-loop
-add-k c = search needs
-
-cast-put-config : tie.Need-cast-put-config Inv-loop μ-loop
-cast-put-config c = search needs
-
 put-config-requires : tie.Need-put-config-requires Inv-loop μ-loop
 put-config-requires c κs = search (needs, given-held, given-within)
 
-loop-less : tie.Need-loop-less Inv-loop μ-loop
-loop-less c = search needs
-
 loop-again : tie.Need-loop-again Inv-loop μ-loop
 loop-again c = search given-more
-
-same-length : tie.Need-same-length Inv-loop μ-loop
-same-length c = search needs
 
 returns : tie.Need-returns Inv-loop μ-loop
 returns c = search given-all
@@ -42,10 +30,10 @@ give-set-spec =
     Inv-loop
     μ-loop
     loop-holds
-    add-k
-    cast-put-config
+    (λ c. search needs)
+    (λ c. search needs)
     put-config-requires
-    loop-less
+    (λ c. search needs)
     loop-again
-    same-length
+    (λ c. search needs)
     returns)

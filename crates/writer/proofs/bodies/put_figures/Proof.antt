@@ -4,30 +4,6 @@ use Rattle.writer.proofs.BodyWriteLaws.{figures-wrote}
 use Rattle.writer.proofs.bodies.put_figures.Statement.{statement}
 use Rattle.writer.proofs.bodies.put_figures.Tie as tie
 
-cast-put-half : tie.Need-cast-put-half
-cast-put-half c = search needs
-
-put-half-requires : tie.Need-put-half-requires
-put-half-requires c κs = search needs
-
-cast-put-half-2 : tie.Need-cast-put-half-2
-cast-put-half-2 c = search needs
-
-put-half-requires-2 : tie.Need-put-half-requires-2
-put-half-requires-2 c κs = search needs
-
-put-number-requires : tie.Need-put-number-requires
-put-number-requires c κs = search needs
-
-put-number-requires-2 : tie.Need-put-number-requires-2
-put-number-requires-2 c κs = search needs
-
-put-number-requires-3 : tie.Need-put-number-requires-3
-put-number-requires-3 c κs = search needs
-
-same-length : tie.Need-same-length
-same-length c = search needs
-
 returns : tie.Need-returns
 returns c =
     let config = c .before .before in
@@ -44,12 +20,12 @@ pub put-figures-spec : {M : Type 1} → statement M
 put-figures-spec =
     tie.close
     (tie.spec
-    cast-put-half
-    put-half-requires
-    cast-put-half-2
-    put-half-requires-2
-    put-number-requires
-    put-number-requires-2
-    put-number-requires-3
-    same-length
+    (λ c. search needs)
+    (λ c κs. search needs)
+    (λ c. search needs)
+    (λ c κs. search needs)
+    (λ c κs. search needs)
+    (λ c κs. search needs)
+    (λ c κs. search needs)
+    (λ c. search needs)
     returns)
