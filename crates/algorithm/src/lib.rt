@@ -23,6 +23,9 @@ pub const CEILING: u32 = 1_000_000_000;
 // How many positions a log, and the marks, have room for.
 pub const POSITIONS: u8 = 64;
 
+// The most servers that a table has.
+pub const SERVERS: u8 = 16;
+
 // Counters are compared as what they are, so that a version cannot stand where a term is compared.
 pub fn term_is(a: Term, b: Term) -> bool
     ensures { λ r. ⌜ r ≡ eqb (a .0) (b .0) ⌝ }

@@ -38,7 +38,7 @@ fn is_newer(a: Term, v: Version, b: Term, w: Version) -> bool
     term_below(b, a) | term_is(a, b) & version_below(w, v)
 }
 
-fn is_ahead(a: Term, p: Position, b: Term, q: Position) -> bool
+fn is_ahead(a: Term, b: Term, p: Position, q: Position) -> bool
     ensures { λ r. ⌜ r ≡ later (a .0) (p .0) (b .0) (q .0) ⌝ }
 {
     term_below(b, a) | term_is(a, b) & position_below(q, p)
@@ -75,8 +75,8 @@ pub fn log_ahead(t: &[u8], i: usize, s: usize) -> bool
 {
     is_ahead(
         last_of(t, s),
-        length_of(t, s),
         last_of(t, i),
+        length_of(t, s),
         length_of(t, i),
     )
 }

@@ -11,7 +11,7 @@ use Rattle.table.specs.Layout.{terms}
 use Rattle.table.specs.Slice.{AllRoomy}
 use Rattle.table.proofs.MarkLaws.{trimmed-take}
 use Rattle.table.proofs.StoredLaws.{its-shape}
-use Rattle.image.specs.Contents.{firstBody}
+use Rattle.image.specs.Contents.{firstBody, figureBytes}
 use Rattle.image.specs.Image.{marksBody, serverBody, bodies, contents, image, longestImage}
 use Rattle.image.proofs.ImageLaws.{length-contents}
 
@@ -19,7 +19,7 @@ marks-most : (ms : List ℕ) → length (marksBody ms) ≤ 4 * length ms
 marks-most ms =
     omega (arith, length-bytes (trimmed ms), ap length (trimmed-take ms), length-take (length (trimmed ms)) ms)
 
-servers-most : (ss : List Server) → AllRoomy ss → length (flatten (map serverBody ss)) ≤ length ss * (16 + 4 * positions)
+servers-most : (ss : List Server) → AllRoomy ss → length (flatten (map serverBody ss)) ≤ length ss * (figureBytes + 4 * positions)
 unfolding flatten
 servers-most [] h = omega arith
 servers-most (s ∷ ss) (h, rest) =

@@ -5,7 +5,7 @@ use lib.ListN.{length}
 use Rattle.algorithm.specs.Table.{Server, Table, count, trimmed, positions, mostServers}
 use Rattle.words.specs.Words.{half, bytes}
 use Rattle.table.specs.Layout.{terms}
-use Rattle.image.specs.Contents.{firstBody}
+use Rattle.image.specs.Contents.{firstBody, figureBytes}
 
 -- the letters SITE, the number of servers, three 0
 abbrev pub opening : ℕ → List ℕ
@@ -35,4 +35,4 @@ image t = opening (count t) ++ (contents (firstBody (count t)) (bodies t) ++ fla
 
 -- the length of the longest image: that of the most servers, with every log full and a mark at the last position
 abbrev pub longestImage : ℕ
-longestImage = firstBody mostServers + 4 * positions + mostServers * (16 + 4 * positions)
+longestImage = firstBody mostServers + 4 * positions + mostServers * (figureBytes + 4 * positions)

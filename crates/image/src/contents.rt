@@ -5,11 +5,9 @@ ghost use lib.ListN.{length};
 ghost use Rattle.algorithm.specs.Table.{soundCount};
 ghost use Rattle.image.specs.Contents.{opened, countIn, offset, size, stop, firstBody, start, figureBytes, fixed, mayHave, laid, laidOut};
 use algorithm::POSITIONS;
+use algorithm::SERVERS;
 use words::half;
 use words::wide;
-
-// The most servers that a table has.
-pub const MOST_SERVERS: u8 = 16;
 
 // The length of a server's body before its log.
 pub const FIGURE_BYTES: usize = 16;
@@ -43,7 +41,7 @@ pub fn is_counted(image: &[u8]) -> bool
     ensures { λ r. ⌜ r ≡ soundCount (countIn (now (image .entry))) ⌝ }
 {
     let n = image[4];
-    (1 <= n) & (n <= MOST_SERVERS)
+    (1 <= n) & (n <= SERVERS)
 }
 
 // Where the first body of an image of n servers begins.

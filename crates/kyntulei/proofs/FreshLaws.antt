@@ -12,7 +12,7 @@ use lib.ListN.{length}
 use borrow.Author.Tests.{eq-eqb, ne-eqb, le-leb, lt-leb}
 use Rattle.members.specs.Members.{within}
 use Rattle.words.proofs.Tests.{Passes}
-use Rattle.algorithm.specs.Table.{fresh}
+use Rattle.algorithm.specs.Table.{fresh, mostServers}
 use Rattle.words.specs.Refusal.{first}
 use Rattle.algorithm.proofs.Seen.{within-width}
 use Rattle.table.specs.Layout.{tableBytes, stored}
@@ -31,23 +31,23 @@ module _ (b : List ℕ) (n m : ℕ) where
     unfolding first
     no-server z = refused 32 (omega arith) (rw (eq-eqb (length b) tableBytes sized, z))
 
-    pub too-many : (n ≡ 0 → ⊥) → 16 < n → FreshAnswer b n m 32 b
+    pub too-many : (n ≡ 0 → ⊥) → mostServers < n → FreshAnswer b n m 32 b
     unfolding first
-    too-many z h = refused 32 (omega arith) (rw (eq-eqb (length b) tableBytes sized, le-leb 1 n (omega arith), lt-leb n 16 h))
+    too-many z h = refused 32 (omega arith) (rw (eq-eqb (length b) tableBytes sized, le-leb 1 n (omega arith), lt-leb n mostServers h))
 
-    module _ (some : n ≡ 0 → ⊥) (few : n ≤ 16) (q : Bool) (is : q ≡ within m n) where
+    module _ (some : n ≡ 0 → ⊥) (few : n ≤ mostServers) (q : Bool) (is : q ≡ within m n) where
       pub bad-set : q ≡ false → FreshAnswer b n m 5 b
       unfolding first
-      bad-set e = refused 5 (omega arith) (rw (eq-eqb (length b) tableBytes sized, le-leb 1 n (omega arith), le-leb n 16 few, ← is, e))
+      bad-set e = refused 5 (omega arith) (rw (eq-eqb (length b) tableBytes sized, le-leb 1 n (omega arith), le-leb n mostServers few, ← is, e))
 
       pub filled : (b' : List ℕ) → q ≡ true → b' ≡ stored (fresh n m) → FreshAnswer b n m 0 b'
       unfolding first
       filled b' e k =
-          let z : freshReply b n m ≡ 0 = rw (eq-eqb (length b) tableBytes sized, le-leb 1 n (omega arith), le-leb n 16 few, ← is, e) in
+          let z : freshReply b n m ≡ 0 = rw (eq-eqb (length b) tableBytes sized, le-leb 1 n (omega arith), le-leb n mostServers few, ← is, e) in
           record { reply = sym z; bytes = rw z k }
 
 -- a set within 16 servers has 16 bits
-pub set-fits : (m n : ℕ) (q : Bool) → n ≤ 16 → q ≡ within m n → q ≡ true → Fits w16 m
+pub set-fits : (m n : ℕ) (q : Bool) → n ≤ mostServers → q ≡ within m n → q ≡ true → Fits w16 m
 set-fits m n q few is e =
     let w : Passes (within m n) = rw (← is, e) (record { yes = tt }) in
-    fits-of-lt (omega (arith, within-width {m = m} n w, pow-mono {i = n} {j = 16} few))
+    fits-of-lt (omega (arith, within-width {m = m} n w, pow-mono {i = n} {j = mostServers} few))

@@ -4,6 +4,7 @@ ghost use Rattle.table.specs.Layout.{tableBytes};
 ghost use Rattle.reader.specs.Reader.{ReadAnswer};
 ghost use Rattle.writer.specs.Writer.{WriteAnswer};
 ghost use Rattle.kyntulei.specs.Promise.{FreshAnswer, StepAnswer, RunAnswer};
+use algorithm::SERVERS;
 use algorithm::number;
 use engine::refuse_all;
 use engine::run;
@@ -14,6 +15,8 @@ use table::BYTES;
 use whole::fresh::fill_fresh;
 use whole::is_whole;
 use writer::write;
+
+const MOST: u32 = SERVERS as u32;
 
 #[no_mangle]
 pub extern "C" fn kyntulei_table_bytes() -> usize
@@ -32,7 +35,7 @@ pub extern "C" fn kyntulei_fresh(table: &mut [u8], n: u32, set: u32) -> u32
     if n == 0 {
         return 32;
     }
-    if 16 < n {
+    if MOST < n {
         return 32;
     }
     if is_within(set, n as u8) {

@@ -21,11 +21,11 @@ pub struct Shares {
     pub term: u16,
 }
 
-fn compare(o: Shares, t: &[u8], i: usize, q: u16, k: usize) -> Shares
+fn compare(t: &[u8], i: usize, q: u16, k: usize, o: Shares) -> Shares
+    requires { ⌜ o ≡ alike (tableIn (now t)) i q k ⌝ }
     requires { ⌜ Held (now t) ⌝ }
     requires { ⌜ Within (now t) i ⌝ }
     requires { ⌜ Within (now t) (k + 1) ⌝ }
-    requires { ⌜ o ≡ alike (tableIn (now t)) i q k ⌝ }
     ensures { λ r. ⌜ r ≡ alike (tableIn (now (t .entry))) i q (k + 1) ⌝ }
 {
     if (q >> k) % 2 == 1 {
@@ -47,7 +47,7 @@ pub fn sharing(t: &[u8], i: usize, q: u16) -> Shares
     let mut o = Shares { config: 0, term: 0 };
     let mut k: usize = 0;
     while k < n {
-        o = compare(o, t, i, q, k);
+        o = compare(t, i, q, k, o);
         k += 1;
     }
     o

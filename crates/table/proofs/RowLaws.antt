@@ -8,10 +8,10 @@ use mathlib.Core.List.{List, [], _∷_, _++_}
 use lib.ListN.{length, getD, set, take, length-append, length-take, List·getD-map}
 use lib.Seq.{length-take-le}
 use Rattle.words.specs.Lists.{nth, replace}
-use Rattle.algorithm.specs.Table.{Entry, entry, Log, Server, Table, count, server, termAt, mark, changed, withMark, withRole, withTerm, withConfig, withEntry, withoutLast, last}
+use Rattle.algorithm.specs.Table.{Entry, entry, Log, Server, Table, count, server, termAt, mark, changed, withMark, withRole, withTerm, withConfig, withEntry, withoutLast, last, positions}
 use Rattle.words.proofs.Lists.{length-replace}
 use Rattle.words.specs.Words.{words, Put}
-use Rattle.table.specs.Layout.{padded, terms, row, head, layout, tableIn}
+use Rattle.table.specs.Layout.{padded, terms, row, head, layout, tableIn, rowWords}
 use Rattle.table.specs.Slice.{Holds, Held, Became, Within}
 use Rattle.table.proofs.LayoutLaws.{marks-in}
 use Rattle.table.proofs.HeldLaws.{its-table, held, its-room, Open, opened, read, then, closed, frame, open-row, close-row}
@@ -42,16 +42,16 @@ get-padded (suc k) (x ∷ l) zero h = refl
 get-padded (suc k) (x ∷ l) (suc p) h = get-padded k l p (omega arith)
 
 -- the entry at a position of the log is the word so far past the length
-pub entry-read : (s : Server) (p r : ℕ) → 1 ≤ p → p ≤ 64 → r ≡ getD (row s) (5 + p) 0 → r ≡ termAt (s .log) p
+pub entry-read : (s : Server) (p r : ℕ) → 1 ≤ p → p ≤ positions → r ≡ getD (row s) (5 + p) 0 → r ≡ termAt (s .log) p
 unfolding nth
 entry-read s zero r h l e = absurd (omega arith)
 entry-read s (suc p) r h l e =
     e
     ∙ ap (λ (n : ℕ). getD (row s) n 0) (past-six p)
-    ∙ get-padded 64 (terms (s .log)) p (omega arith)
+    ∙ get-padded positions (terms (s .log)) p (omega arith)
     ∙ List·getD-map (λ (e : Entry). e .term) (s .log) p (entry 0)
 
-pub mark-read : (b : List ℕ) (p r : ℕ) → Held b → 1 ≤ p → p ≤ 64 → r ≡ getD (words b) (5 + p) 0 → r ≡ mark (tableIn b) p
+pub mark-read : (b : List ℕ) (p r : ℕ) → Held b → 1 ≤ p → p ≤ positions → r ≡ getD (words b) (5 + p) 0 → r ≡ mark (tableIn b) p
 unfolding nth
 mark-read b zero r h k l e = absurd (omega arith)
 mark-read b (suc p) r h k l e =
@@ -60,7 +60,7 @@ mark-read b (suc p) r h k l e =
     ∙ ap (λ (n : ℕ). getD (words b) n 0) (sym (zero-add (5 + suc p)))
     ∙ read (marks-in t) (5 + suc p) (opened (marks-in t) b (t .marks) (h .sized) (h .laid)) (omega arith)
     ∙ ap (λ (n : ℕ). getD (head (count t) (t .marks)) n 0) (past-six p)
-    ∙ get-padded 64 (t .marks) p (omega arith)
+    ∙ get-padded positions (t .marks) p (omega arith)
 
 -- ---- the last entry
 
@@ -69,17 +69,17 @@ unfolding nth
 none l = refl
 
 -- the word so far past the length as the log is long is its last entry; of an empty log that is the length itself, 0
-pub last-read : (s : Server) (n r : ℕ) → n ≡ length (s .log) → n ≤ 64 → r ≡ getD (row s) (5 + n) 0 → r ≡ last (s .log)
+pub last-read : (s : Server) (n r : ℕ) → n ≡ length (s .log) → n ≤ positions → r ≡ getD (row s) (5 + n) 0 → r ≡ last (s .log)
 last-read s n r e l h = rw (← e) (go n e l h)
   where
-    go : (n : ℕ) → n ≡ length (s .log) → n ≤ 64 → r ≡ getD (row s) (5 + n) 0 → r ≡ termAt (s .log) n
+    go : (n : ℕ) → n ≡ length (s .log) → n ≤ positions → r ≡ getD (row s) (5 + n) 0 → r ≡ termAt (s .log) n
     go zero e l h = h ∙ sym e ∙ none (s .log)
     go (suc p) e l h = entry-read s (suc p) r (omega arith) l h
 
 pub set-small : (b : List ℕ) (i r : ℕ) → Held b → r ≡ server (tableIn b) i .config .set → r < 65536
 set-small b i r h e = omega (arith, e, its-room i h .small)
 
-pub log-short : (b : List ℕ) (i r : ℕ) → Held b → r ≡ length (server (tableIn b) i .log) → r ≤ 64
+pub log-short : (b : List ℕ) (i r : ℕ) → Held b → r ≡ length (server (tableIn b) i .log) → r ≤ positions
 log-short b i r h e = omega (arith, e, its-room i h .short)
 
 -- ---- an entry more, and one less
@@ -99,44 +99,44 @@ pop-log (suc k) (x ∷ []) (suc n) e h = absurd (omega arith)
 pop-log (suc k) (x ∷ y ∷ l) zero e h = absurd (omega arith)
 pop-log (suc k) (x ∷ y ∷ l) (suc n) e h = ap (λ (z : List ℕ). x .term ∷ z) (pop-log k (y ∷ l) n (omega arith) (omega arith))
 
-push-row : (s : Server) (n v : ℕ) → n ≡ length (s .log) → n < 64
+push-row : (s : Server) (n v : ℕ) → n ≡ length (s .log) → n < positions
     → set (set (row s) 5 (n + 1)) (5 + (n + 1)) v ≡ row (withEntry (entry v) s)
 push-row s n v e h =
-    rw (e, add-one, past-six (length (s .log)), push-log 64 (s .log) v (omega arith), length-append (s .log) (entry v ∷ []), add-one)
+    rw (e, add-one, past-six (length (s .log)), push-log positions (s .log) v (omega arith), length-append (s .log) (entry v ∷ []), add-one)
 
-pop-row : (s : Server) (n : ℕ) → n ≡ length (s .log) → 1 ≤ n → n ≤ 64
+pop-row : (s : Server) (n : ℕ) → n ≡ length (s .log) → 1 ≤ n → n ≤ positions
     → set (set (row s) 5 (n - 1)) (5 + n) 0 ≡ row (withoutLast s)
 pop-row s zero e h l = absurd (omega arith)
 pop-row s (suc n) e h l =
-    rw (← e, sub-one, past-six n, pop-log 64 (s .log) n (sym e) (omega arith), length-take-le n (s .log) (omega arith))
+    rw (← e, sub-one, past-six n, pop-log positions (s .log) n (sym e) (omega arith), length-take-le n (s .log) (omega arith))
 
 -- ---- figures put
 
 module _ {b : List ℕ} {i : ℕ} (h : Held b) (w : Within b i) where
-  pub role-put : (b' : List ℕ) (v : ℕ) → Put b b' (70 * i + 0) v → Became b b' (changed (tableIn b) i (withRole v))
+  pub role-put : (b' : List ℕ) (v : ℕ) → Put b b' (rowWords * i + 0) v → Became b b' (changed (tableIn b) i (withRole v))
   role-put b' v p = close-row h w _ (its-room i h) (then (frame h w) (open-row h w) (omega arith) p)
 
-  pub term-put : (b' : List ℕ) (v : ℕ) → Put b b' (70 * i + 1) v → Became b b' (changed (tableIn b) i (withTerm v))
+  pub term-put : (b' : List ℕ) (v : ℕ) → Put b b' (rowWords * i + 1) v → Became b b' (changed (tableIn b) i (withTerm v))
   term-put b' v p = close-row h w _ (its-room i h) (then (frame h w) (open-row h w) (omega arith) p)
 
-  pub config-put : (b₁ b₂ b₃ : List ℕ) (m v c : ℕ) → m < 65536 → Put b b₁ (70 * i + 2) m → Put b₁ b₂ (70 * i + 3) v → Put b₂ b₃ (70 * i + 4) c
+  pub config-put : (b₁ b₂ b₃ : List ℕ) (m v c : ℕ) → m < 65536 → Put b b₁ (rowWords * i + 2) m → Put b₁ b₂ (rowWords * i + 3) v → Put b₂ b₃ (rowWords * i + 4) c
       → Became b b₃ (changed (tableIn b) i (withConfig (record { set = m; version = v; term = c })))
   config-put b₁ b₂ b₃ m v c l p q u =
       let f = frame h w in
       close-row h w _ (record { short = its-room i h .short; small = l })
       (then f (then f (then f (open-row h w) (omega arith) p) (omega arith) q) (omega arith) u)
 
-  pub push-put : (b₁ b₂ : List ℕ) (n v : ℕ) → n ≡ length (server (tableIn b) i .log) → length (server (tableIn b) i .log) < 64
-      → Put b b₁ (70 * i + 5) (n + 1) → Put b₁ b₂ (70 * i + 5 + (n + 1)) v → Became b b₂ (changed (tableIn b) i (withEntry (entry v)))
+  pub push-put : (b₁ b₂ : List ℕ) (n v : ℕ) → n ≡ length (server (tableIn b) i .log) → length (server (tableIn b) i .log) < positions
+      → Put b b₁ (rowWords * i + 5) (n + 1) → Put b₁ b₂ (rowWords * i + 5 + (n + 1)) v → Became b b₂ (changed (tableIn b) i (withEntry (entry v)))
   push-put b₁ b₂ n v e l p q =
       let s = server (tableIn b) i in
       let f = frame h w in
       close-row h w _
       (record { short = omega (arith, length-append (s .log) (entry v ∷ [])); small = its-room i h .small })
-      (rw (push-row s n v e (omega arith)) at (then f (then f (open-row h w) (omega arith) p) (omega arith) (rw (add-assoc (70 * i) 5 (n + 1)) at q)))
+      (rw (push-row s n v e (omega arith)) at (then f (then f (open-row h w) (omega arith) p) (omega arith) (rw (add-assoc (rowWords * i) 5 (n + 1)) at q)))
 
   pub pop-put : (b₁ b₂ : List ℕ) (n : ℕ) → n ≡ length (server (tableIn b) i .log) → 1 ≤ length (server (tableIn b) i .log)
-      → Put b b₁ (70 * i + 5) (n - 1) → Put b₁ b₂ (70 * i + 5 + n) 0 → Became b b₂ (changed (tableIn b) i withoutLast)
+      → Put b b₁ (rowWords * i + 5) (n - 1) → Put b₁ b₂ (rowWords * i + 5 + n) 0 → Became b b₂ (changed (tableIn b) i withoutLast)
   pop-put b₁ b₂ n e l p q =
       let s = server (tableIn b) i in
       let f = frame h w in
@@ -144,7 +144,7 @@ module _ {b : List ℕ} {i : ℕ} (h : Held b) (w : Within b i) where
       close-row h w _
       (record { short = omega (arith, length-take (length (s .log) - 1) (s .log), r .short); small = r .small })
       (rw (pop-row s n e (omega arith) (omega (arith, r .short))) at
-      (then f (then f (open-row h w) (omega arith) p) (omega (arith, r .short)) (rw (add-assoc (70 * i) 5 n) at q)))
+      (then f (then f (open-row h w) (omega arith) p) (omega (arith, r .short)) (rw (add-assoc (rowWords * i) 5 n) at q)))
 
 -- ---- a mark put
 
@@ -158,9 +158,9 @@ set-padded (suc k) (x ∷ l) (suc p) v h = ap (λ (y : List ℕ). x ∷ y) (set-
 mark-row : (n : ℕ) (ms : List ℕ) (p v : ℕ) → 1 ≤ p → p ≤ length ms → set (head n ms) (5 + p) v ≡ head n (replace ms p v)
 unfolding replace
 mark-row n ms zero v k l = absurd (omega arith)
-mark-row n ms (suc p) v k l = rw (past-six p, set-padded 64 ms p v (omega arith))
+mark-row n ms (suc p) v k l = rw (past-six p, set-padded positions ms p v (omega arith))
 
-pub mark-put : (b b' : List ℕ) (p v : ℕ) → Held b → 1 ≤ p → p ≤ 64 → Put b b' (5 + p) v → Became b b' (withMark (tableIn b) p v)
+pub mark-put : (b b' : List ℕ) (p v : ℕ) → Held b → 1 ≤ p → p ≤ positions → Put b b' (5 + p) v → Became b b' (withMark (tableIn b) p v)
 mark-put b b' p v h k l u = record { holds = holds; held = held holds; same = ap count (its-table holds) }
   where
     t : Table

@@ -1,7 +1,10 @@
 // A table in a lent slice of 4,760 bytes, worked on in place: 17 rows of 70 words (specs/Layout.antt).
+use crate::rows::ROW;
+use algorithm::SERVERS;
+
 pub mod figures;
 pub mod marks;
 pub mod rows;
 
 // The length of a table's slice.
-pub const BYTES: usize = 4760;
+pub const BYTES: usize = 4 * ROW * (1 + SERVERS as usize);

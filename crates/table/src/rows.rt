@@ -6,6 +6,7 @@ ghost use Rattle.algorithm.specs.Table.{entry, count, server, termAt, mark, cha
 ghost use Rattle.table.specs.Layout.{rowWords, row, tableIn};
 ghost use Rattle.table.specs.Slice.{Held, Became, Within, seen};
 use crate::figures::Figures;
+use algorithm::POSITIONS;
 use algorithm::Position;
 use algorithm::Term;
 use algorithm::Version;
@@ -19,7 +20,7 @@ pub struct Row {
     pub last: Term,
 }
 
-pub const ROW: usize = 70;
+pub const ROW: usize = LOG + POSITIONS as usize;
 
 // The places of a server's figures in its row, and of its log's first entry: position p is p places after the length. The marks stand
 // in row 0 as a log does.

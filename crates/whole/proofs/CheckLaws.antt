@@ -8,10 +8,10 @@ use lib.ListN.{getD, drop}
 use lib.Seq.{getD-drop, drop-drop}
 use borrow.Author.Tests.{le-leb, lt-leb}
 use Rattle.words.specs.Lists.{every, between, part}
-use Rattle.algorithm.specs.Table.{withLog, ceiling, soundServer}
+use Rattle.algorithm.specs.Table.{withLog, ceiling, soundServer, positions, mostServers}
 use Rattle.table.specs.Slice.{figured}
 use Rattle.table.specs.declared.figures.Figures.{Figures}
-use Rattle.table.specs.Layout.{serverOf}
+use Rattle.table.specs.Layout.{serverOf, rowWords}
 use Rattle.whole.specs.Check.{soundRow, soundRows, soundWords}
 
 -- ---- a row at a place
@@ -36,55 +36,55 @@ module _ (c : List ℕ) (at n : ℕ) where
       )
       e
 
-  pub row-long : (k : ℕ) → k ≡ getD c (at + 5) 0 → 64 < k → false ≡ soundRow n (drop at c)
+  pub row-long : (k : ℕ) → k ≡ getD c (at + 5) 0 → positions < k → false ≡ soundRow n (drop at c)
   unfolding soundRow
-  row-long k e h = rw (getD-drop at c 5 0, ← e, lt-leb k 64 h)
+  row-long k e h = rw (getD-drop at c 5 0, ← e, lt-leb k positions h)
 
-  pub row-at : (k : ℕ) (f e z : Bool) → k ≡ getD c (at + 5) 0 → k ≤ 64 → f ≡ soundServer n (withLog [] (serverOf (drop at c)))
-      → e ≡ every (between 1 ceiling) (part c (at + 6) k) → z ≡ every (between 0 0) (part c (at + (6 + k)) (64 - k))
+  pub row-at : (k : ℕ) (f e z : Bool) → k ≡ getD c (at + 5) 0 → k ≤ positions → f ≡ soundServer n (withLog [] (serverOf (drop at c)))
+      → e ≡ every (between 1 ceiling) (part c (at + 6) k) → z ≡ every (between 0 0) (part c (at + (6 + k)) (positions - k))
       → (f && e && z) ≡ soundRow n (drop at c)
   unfolding soundRow
   row-at k f e z ek h ef ee ez =
-      rw (getD-drop at c 5 0, ← ek, le-leb k 64 h, drop-drop 6 at c, drop-drop (6 + k) at c, ← ef, ← ee, ← ez)
+      rw (getD-drop at c 5 0, ← ek, le-leb k positions h, drop-drop 6 at c, drop-drop (6 + k) at c, ← ef, ← ee, ← ez)
 
 -- ---- a loop over rows
 
 module _ (c : List ℕ) (n : ℕ) where
   -- what the rows after row k tell
   abbrev rest : ℕ → Bool
-  rest k = soundRows (n - k) n (drop (70 * (k + 1)) c)
+  rest k = soundRows (n - k) n (drop (rowWords * (k + 1)) c)
 
   -- the first k rows are tested: ok and the rest tell of all
   pub record RowsTested (k : ℕ) (ok : Bool) : Type 0 where
-    pub tells : (ok && rest k) ≡ soundRows n n (drop 70 c)
+    pub tells : (ok && rest k) ≡ soundRows n n (drop rowWords c)
 
   pub rows-none : RowsTested 0 true
   rows-none =
       let all : n - 0 ≡ n = omega arith in
-      record { tells = ap (λ (j : ℕ). soundRows j n (drop 70 c)) all }
+      record { tells = ap (λ (j : ℕ). soundRows j n (drop rowWords c)) all }
 
-  pub rows-more : (k : ℕ) (ok r : Bool) → k < n → RowsTested k ok → r ≡ soundRow n (drop (70 * (k + 1)) c) → RowsTested (k + 1) (ok && r)
+  pub rows-more : (k : ℕ) (ok r : Bool) → k < n → RowsTested k ok → r ≡ soundRow n (drop (rowWords * (k + 1)) c) → RowsTested (k + 1) (ok && r)
   unfolding soundRows
   rows-more k ok r h e f = record { tells = and-assoc ok r (rest (k + 1)) ∙ ap (λ (x : Bool). ok && x) (sym next) ∙ e .tells }
     where
       left : n - k ≡ suc (n - (k + 1))
       left = omega arith
 
-      on : 70 * (k + 1) + 70 ≡ 70 * (k + 1 + 1)
+      on : rowWords * (k + 1) + rowWords ≡ rowWords * (k + 1 + 1)
       on = omega arith
 
       next : rest k ≡ (r && rest (k + 1))
-      next = rw (left, drop-drop 70 (70 * (k + 1)) c, on, ← f)
+      next = rw (left, drop-drop rowWords (rowWords * (k + 1)) c, on, ← f)
 
-  pub rows-all : (k : ℕ) (ok : Bool) → k ≤ n → n ≤ k → RowsTested k ok → ok ≡ soundRows n n (drop 70 c)
+  pub rows-all : (k : ℕ) (ok : Bool) → k ≤ n → n ≤ k → RowsTested k ok → ok ≡ soundRows n n (drop rowWords c)
   unfolding soundRows
   rows-all k ok l m e =
       let none : n - k ≡ 0 = omega arith in
-      sym (and-true ok) ∙ ap (λ (j : ℕ). ok && soundRows j n (drop (70 * (k + 1)) c)) (sym none) ∙ e .tells
+      sym (and-true ok) ∙ ap (λ (j : ℕ). ok && soundRows j n (drop (rowWords * (k + 1)) c)) (sym none) ∙ e .tells
 
 -- ---- the four parts of a table's words
 
-pub words-at : (c : List ℕ) (n : ℕ) (a b r z : Bool) → a ≡ every (between 0 0) (part c 1 5) → b ≡ every (between 0 ceiling) (part c 6 64)
-    → r ≡ soundRows n n (drop 70 c) → z ≡ every (between 0 0) (part c (70 * n + 70) (1120 - 70 * n)) → (a && b && r && z) ≡ soundWords n c
+pub words-at : (c : List ℕ) (n : ℕ) (a b r z : Bool) → a ≡ every (between 0 0) (part c 1 5) → b ≡ every (between 0 ceiling) (part c 6 positions)
+    → r ≡ soundRows n n (drop rowWords c) → z ≡ every (between 0 0) (part c (rowWords * n + rowWords) (rowWords * mostServers - rowWords * n)) → (a && b && r && z) ≡ soundWords n c
 unfolding soundWords
 words-at c n a b r z ea eb er ez = rw (ea, eb, er, ez)

@@ -8,6 +8,7 @@ ghost use Rattle.words.specs.Words.{words};
 ghost use Rattle.table.specs.Layout.{rowWords, tableBytes, serverOf, whole};
 ghost use Rattle.whole.specs.Check.{soundRow, soundRows, soundWords};
 use algorithm::CEILING;
+use algorithm::SERVERS;
 use algorithm::Term;
 use algorithm::Version;
 use table::BYTES;
@@ -30,7 +31,9 @@ pub mod fresh;
 // The longest log that a row has room for, and the words of the servers' 16 rows.
 const LONGEST: u32 = ENTRIES as u32;
 
-const SERVER_WORDS: usize = 16 * ROW;
+const SERVER_WORDS: usize = SERVERS as usize * ROW;
+
+const MOST: u32 = SERVERS as u32;
 
 // The figures of server s of n are sound.
 fn row_figures_sound(t: &[u8], n: u8, s: usize) -> bool
@@ -102,7 +105,7 @@ pub fn is_whole(t: &[u8]) -> bool
     if n == 0 {
         return false;
     }
-    if 16 < n {
+    if MOST < n {
         return false;
     }
     words_sound(t, n as u8)

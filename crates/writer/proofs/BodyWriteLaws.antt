@@ -13,7 +13,7 @@ use Rattle.words.proofs.WordLaws.{length-bytes, bytes-words}
 use Rattle.table.specs.Slice.{figured, Held, Within, seen}
 use Rattle.table.specs.declared.figures.Figures.{Figures}
 use Rattle.table.specs.declared.rows.Row.{Row}
-use Rattle.table.specs.Layout.{rowWords, tableBytes, terms, row, layout, tableIn}
+use Rattle.table.specs.Layout.{rowWords, tableBytes, terms, row, layout, tableIn, tableWords}
 use Rattle.table.proofs.LayoutLaws.{log-terms, marks-back}
 use Rattle.table.proofs.HeldLaws.{its-room, frame, open-row}
 use Rattle.table.proofs.MarkLaws.{trimmed-take}
@@ -55,7 +55,7 @@ pub words-wrote : (b b' t : List ℕ) (at k n r : ℕ) → ((i : ℕ) → getD t
     → Wrote b b' at (take (4 * k + 4 * n - 4 * k) (drop (4 * k) t)) r → Wrote b b' at (bytes (take n (drop k (words t)))) r
 words-wrote b b' t at k n r byte e w =
     let long : 4 * k + 4 * n - 4 * k ≡ 4 * n = omega arith in
-    rw (← take-bytes n (drop k (words t)), ← drop-bytes k (words t), bytes-words t 1190 e byte, ← long) w
+    rw (← take-bytes n (drop k (words t)), ← drop-bytes k (words t), bytes-words t tableWords e byte, ← long) w
 
 -- the first marks behind the head of a slice, and the entries behind a server's figures
 module _ (t : List ℕ) (h : Held t) where

@@ -13,11 +13,38 @@ Inv-loop t₀ q term n k₀ t k = (length t ≡ length t₀) × Voted t₀ q (te
 abbrev μ-loop : tie.MeasureT-loop
 μ-loop t₀ q term n k₀ t k = n - k
 
+count-of-requires : tie.Need-count-of-requires Inv-loop μ-loop
+count-of-requires c κs = search needs
+
+cast-n : tie.Need-cast-n Inv-loop μ-loop
+cast-n c = search needs
+
 loop-holds : tie.Need-loop-holds Inv-loop μ-loop
 loop-holds c = (search needs, search (needs, voted-none))
 
+add-vote-one : tie.Need-add-vote-one Inv-loop μ-loop
+add-vote-one c = search needs
+
+cast-vote-one : tie.Need-cast-vote-one Inv-loop μ-loop
+cast-vote-one c = search needs
+
+shr-vote-one : tie.Need-shr-vote-one Inv-loop μ-loop
+shr-vote-one c = search needs
+
+vote-one-requires : tie.Need-vote-one-requires Inv-loop μ-loop
+vote-one-requires c κs = search needs
+
+add-k : tie.Need-add-k Inv-loop μ-loop
+add-k c = search needs
+
+loop-less : tie.Need-loop-less Inv-loop μ-loop
+loop-less c = search needs
+
 loop-again : tie.Need-loop-again Inv-loop μ-loop
 loop-again c = (search needs, search (needs, voted-more))
+
+same-length : tie.Need-same-length Inv-loop μ-loop
+same-length c = search needs
 
 returns : tie.Need-returns Inv-loop μ-loop
 returns c = search (needs, voted-all)
@@ -28,15 +55,15 @@ vote-spec =
     (tie.spec
     Inv-loop
     μ-loop
-    (λ c κs. search needs)
-    (λ c. search needs)
+    count-of-requires
+    cast-n
     loop-holds
-    (λ c. search needs)
-    (λ c. search needs)
-    (λ c. search needs)
-    (λ c κs. search needs)
-    (λ c. search needs)
-    (λ c. search needs)
+    add-vote-one
+    cast-vote-one
+    shr-vote-one
+    vote-one-requires
+    add-k
+    loop-less
     loop-again
-    (λ c. search needs)
+    same-length
     returns)

@@ -14,6 +14,15 @@ Inv-loop t i q n o₀ k₀ o k = Turned (alike (tableIn t) i q) (count (tableIn 
 abbrev μ-loop : tie.MeasureT-loop
 μ-loop t i q n o₀ k₀ o k = n - k
 
+loop-holds : tie.Need-loop-holds Inv-loop μ-loop
+loop-holds c = search (needs, alike-none)
+
+compare-requires : tie.Need-compare-requires Inv-loop μ-loop
+compare-requires c κs = (c .before .loop .inv .is, (search needs, (search needs, search needs)))
+
+returns : tie.Need-returns Inv-loop μ-loop
+returns c = search (needs, alike-all)
+
 pub sharing-spec : {M : Type 1} → statement M
 sharing-spec =
     tie.close
@@ -22,9 +31,9 @@ sharing-spec =
     μ-loop
     (λ c κs. search needs)
     (λ c. search needs)
-    (λ c. search (needs, alike-none))
-    (λ c κs. (search needs, (search needs, (search needs, c .before .loop .inv .is))))
+    loop-holds
+    compare-requires
     (λ c. search needs)
     (λ c. search needs)
     (λ c. search needs)
-    (λ c. search (needs, alike-all)))
+    returns)

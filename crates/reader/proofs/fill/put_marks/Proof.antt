@@ -11,11 +11,32 @@ Inv-loop t₀ b n k₀ t k = Marking t₀ t b k
 abbrev μ-loop : tie.MeasureT-loop
 μ-loop t₀ b n k₀ t k = n - k
 
+cast-n : tie.Need-cast-n Inv-loop μ-loop
+cast-n c = search needs
+
 loop-holds : tie.Need-loop-holds Inv-loop μ-loop
 loop-holds c = search (needs, marks-none)
 
+cast-word : tie.Need-cast-word Inv-loop μ-loop
+cast-word c = search needs
+
+word-requires : tie.Need-word-requires Inv-loop μ-loop
+word-requires c κs = search needs
+
+add-k : tie.Need-add-k Inv-loop μ-loop
+add-k c = search needs
+
+put-mark-requires : tie.Need-put-mark-requires Inv-loop μ-loop
+put-mark-requires c κs = search needs
+
+loop-less : tie.Need-loop-less Inv-loop μ-loop
+loop-less c = search needs
+
 loop-again : tie.Need-loop-again Inv-loop μ-loop
 loop-again c = search (needs, marks-more)
+
+same-length : tie.Need-same-length Inv-loop μ-loop
+same-length c = search needs
 
 returns : tie.Need-returns Inv-loop μ-loop
 returns c = search (needs, marks-all)
@@ -26,13 +47,13 @@ put-marks-spec =
     (tie.spec
     Inv-loop
     μ-loop
-    (λ c. search needs)
+    cast-n
     loop-holds
-    (λ c. search needs)
-    (λ c κs. search needs)
-    (λ c. search needs)
-    (λ c κs. search needs)
-    (λ c. search needs)
+    cast-word
+    word-requires
+    add-k
+    put-mark-requires
+    loop-less
     loop-again
-    (λ c. search needs)
+    same-length
     returns)

@@ -5,9 +5,10 @@ use borrow.Author.Needs.{needs}
 use Rattle.table.proofs.RowLaws.{log-short}
 use Rattle.table.proofs.rows.length_of.Statement.{statement}
 use Rattle.table.proofs.rows.length_of.Tie as tie
+use Rattle.algorithm.specs.Table.{positions}
 
 cast-t4 : tie.Need-cast-t4
-cast-t4 c = let h : c .field .result ≤ 64 = search log-short in omega arith
+cast-t4 c = let h : c .field .result ≤ positions = search log-short in omega arith
 
 returns : tie.Need-returns
 returns c = search log-short

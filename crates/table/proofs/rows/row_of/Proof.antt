@@ -3,7 +3,7 @@ use Prim.Native.Nat.{ℕ, _+_, _≤_}
 use mathlib.Core.Path.{_≡_}
 use lib.ListN.{length, getD}
 use borrow.Author.Needs.{needs}
-use Rattle.algorithm.specs.Table.{Server, last}
+use Rattle.algorithm.specs.Table.{Server, last, positions}
 use Rattle.algorithm.specs.declared.Term.{Term}
 use Rattle.algorithm.specs.declared.Version.{Version}
 use Rattle.algorithm.specs.declared.Position.{Position}
@@ -15,7 +15,7 @@ use Rattle.table.proofs.rows.row_of.Statement.{statement}
 use Rattle.table.proofs.rows.row_of.Tie as tie
 
 seen-by : (s : Server) (r m e : ℕ) (t c : Term) (v : Version) (l : Position) → r ≡ s .role → t .0 ≡ s .term → m ≡ s .config .set
-    → v .0 ≡ s .config .version → c .0 ≡ s .config .term → l .0 ≡ length (s .log) → l .0 ≤ 64 → e ≡ getD (row s) (5 + l .0) 0
+    → v .0 ≡ s .config .version → c .0 ≡ s .config .term → l .0 ≡ length (s .log) → l .0 ≤ positions → e ≡ getD (row s) (5 + l .0) 0
     → _≡_ {A = Row}
     (record { figures = record { role = r; term = t; set = m; version = v; config = c }; length = l; last = record { 0 = e } }) (seen s)
 seen-by s r m e t c v l er et em ev ec el short ee =
