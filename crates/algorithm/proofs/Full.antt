@@ -29,7 +29,7 @@ pub data Action : Type 0 where
   write : ℕ → Action
   fetch roll-back commit : ℕ → ℕ → Action
 
--- P1: some mark carries i's term, and a majority of i's set is in that term and holds every entry so marked
+-- P1: i's term is on a mark, and most of i's set is in that term with all that such marks name
 pub record Settled (v : View) (i : ℕ) : Type 0 where
   pub position : ℕ
   pub marked : Marked (v .mark) position (v .core i .term)

@@ -149,7 +149,7 @@ q1 t i = mostPass (count t) (sameConfig t i) (server t i .config .set)
 abbrev pub q2 : Table → ℕ → Bool
 q2 t i = mostPass (count t) (sameTerm t i) (server t i .config .set)
 
--- P1: some mark is of i's term, and a majority of i's set has that term and every entry marked with it
+-- P1: i's term is on a mark, and those of i's set that share the term and hold all that it marks are a majority of it
 abbrev pub p1 : Table → ℕ → Bool
 p1 t i = someMarked (t .marks) (server t i .term) && mostPass (count t) (holdsCommitted t i) (server t i .config .set)
 

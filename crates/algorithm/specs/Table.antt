@@ -42,7 +42,7 @@ pub record Server : Type 0 where
   pub config : Config
   pub log : Log
 
--- the servers 1 to n in order, and for each position 1 to 64 the term committed there, or 0
+-- the servers in the order of their numbers, and a mark a position: the term that was committed there, or 0
 pub record Table : Type 0 where
   pub servers : List Server
   pub marks : List ℕ
@@ -190,7 +190,7 @@ kept zero [] = []
 kept (suc m) [] = suc m ∷ []
 kept m (x ∷ ms) = m ∷ x ∷ ms
 
--- the marks through the last one that is not 0
+-- the marks without the zeros at their end
 unfoldable pub trimmed : List ℕ → List ℕ
 trimmed [] = []
 trimmed (m ∷ ms) = kept m (trimmed ms)

@@ -26,7 +26,7 @@ pub const POSITIONS: u8 = 64;
 // The most servers that a table has.
 pub const SERVERS: u8 = 16;
 
-// Counters are compared as what they are, so that a version cannot stand where a term is compared.
+// A comparison takes two counters of one kind: a version beside a term does not compile.
 pub fn term_is(a: Term, b: Term) -> bool
     ensures { λ r. ⌜ r ≡ eqb (a .0) (b .0) ⌝ }
 {

@@ -1,4 +1,4 @@
-// The bodies of an image, and whether their fields keep the rules. A body is the part of the image that its entry names: what judges it
+// The bodies of an image, and whether their fields keep the rules. Who judges a body is lent that body alone: it
 // sees nothing else.
 ghost use mathlib.Core.Path.{_≡_};
 ghost use Prim.Native.Nat.{_<_};

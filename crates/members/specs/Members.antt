@@ -1,4 +1,4 @@
--- Sets of servers as numbers: server s is bit s - 1, and `ones m` is how many servers m has. Assumes nothing.
+-- Sets of servers as numbers: bit k stands for server k + 1, and `ones m` is how many servers m has. Assumes nothing.
 -- (As in every file: `T b` says that the test b passes; `abbrev` and `unfoldable` say how proofs see a definition, not what it says; "assumes
 -- nothing" is: no axiom.)
 use mathlib.Core.Bool.{Bool, true, false, _&&_}

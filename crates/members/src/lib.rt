@@ -1,4 +1,4 @@
-// Sets of servers as masks: server s is bit s - 1.
+// Sets of servers as masks: bit k stands for server k + 1.
 ghost use mathlib.Core.Path.{_≡_};
 ghost use Prim.Native.Nat.{_^_, _<_};
 ghost use Rattle.members.specs.Members.{member, majority, oneApart, within, withNext};

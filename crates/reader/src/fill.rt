@@ -1,4 +1,4 @@
-// A slice filled with the table of an image that is judged already. A body is read from the part of the image that its entry names.
+// A slice filled with the table of an image that is judged already. Who reads a body is lent that body alone.
 ghost use mathlib.Core.Path.{_≡_};
 ghost use mathlib.Core.List.{[]};
 ghost use Prim.Native.Nat.{_≤_, _<_};

@@ -10,7 +10,7 @@ use Rattle.algorithm.proofs.Sound.{SoundTable, table-sound}
 use Rattle.words.specs.Words.{bytes}
 use Rattle.words.proofs.WordLaws.{length-bytes, bytes-words, words-bytes}
 use Rattle.table.specs.Layout.{tableBytes, layout, stored, tableIn, tableWords}
-use Rattle.table.specs.Slice.{Shaped, Holds}
+use Rattle.table.specs.Slice.{Shaped, Holds, Became}
 use Rattle.table.proofs.LayoutLaws.{length-layout}
 use Rattle.table.proofs.HeldLaws.{its-table}
 use Rattle.table.proofs.SoundLaws.{sound-shaped, words-layout}
@@ -44,3 +44,6 @@ held-stored b t f h = sym (bytes-words b tableWords (h .sized) f) ∙ ap bytes (
 -- so two slices that hold one table are equal: what the functions promise of a slice leaves no freedom
 pub holds-unique : (b b' : List ℕ) (t : Table) → ((i : ℕ) → getD b i 0 < 256) → ((i : ℕ) → getD b' i 0 < 256) → Holds b t → Holds b' t → b ≡ b'
 holds-unique b b' t f g h k = held-stored b t f h ∙ sym (held-stored b' t g k)
+
+pub became-unique : (b c c' : List ℕ) (t : Table) → ((i : ℕ) → getD c i 0 < 256) → ((i : ℕ) → getD c' i 0 < 256) → Became b c t → Became b c' t → c ≡ c'
+became-unique b c c' t f g h k = holds-unique c c' t f g (h .holds) (k .holds)

@@ -1,4 +1,4 @@
-// The marks of a table through the last one that is not 0: those that its image and a report show.
+// The marks that an image and a report show: zeros at the end are left out.
 ghost use mathlib.Core.Path.{_≡_};
 ghost use Prim.Native.Nat.{_≤_};
 ghost use lib.ListN.{length};

@@ -65,12 +65,6 @@ behind-is p at l = of (stands p at)
     of (cut m s) = omega arith
     of (none m) = omega arith
 
-pub behind-within : (p : List ℕ) (at : ℕ) → at ≤ length p → behind p at ≤ length p
-behind-within p at l = omega (arith, behind-is p at l)
-
-pub behind-grows : (p : List ℕ) (at : ℕ) → at < length p → at < behind p at
-behind-grows p at l = omega (arith, behind-is p at (omega arith))
-
 -- two walks over one list at one place are one walk
 pub walk-unique : {v w : Walk} {s : RefT (List ℕ)} {n : ℕ} → (v .actions ≡ s) × (v .at ≡ n) → (w .actions ≡ s) × (w .at ≡ n) → v ≡ w
 walk-unique (a, b) (c, d) = λ i. record { actions = (a ∙ sym c) i; at = (b ∙ sym d) i }

@@ -1,10 +1,9 @@
 -- What the writer's contract amounts to, with that of the reader. Assumes nothing.
 use Prim.Native.Nat.{ℕ, _≤_, _<_}
-use native.Mathlib.Omega.{arith}
 use mathlib.Core.Path.{_≡_, refl, ap, sym, _∙_}
 use mathlib.Core.Bool.{true}
 use mathlib.Core.List.{List, _++_}
-use lib.ListN.{length, getD, take, drop, length-append, take-append-drop}
+use lib.ListN.{length, getD, take, drop, take-append-drop}
 use lib.Seq.{take-at, length-take-le}
 use borrow.Author.Tests.{eq-eqb}
 use Rattle.words.proofs.Tests.{refuted, is-true}
@@ -33,19 +32,6 @@ unfolding writeReply every
 was-whole slice buffer e =
     let none = none-hold (writerRefusals slice buffer) tt e in
     is-true (whole slice) (refuted {b = whole slice} (none 1) .yes)
-
--- Where the image is written it lies within the buffer, and what is lent up to its end is as long as the end says.
-module _ (b buffer : List ℕ) (e k : ℕ) (buffer' : List ℕ) (e' : ℕ) (w : WriteAnswer b buffer e k buffer' e') (written : k ≡ 0) where
-  pub written-within : e' ≤ length buffer'
-  written-within =
-      let done = eq-eqb (writeReply b buffer) 0 (sym (w .reply) ∙ written) in
-      let behind = drop (length (imageOf b)) buffer in
-      let begins : buffer' ≡ imageOf b ++ behind = w .bytes ∙ rw done in
-      let ends : e' ≡ length (imageOf b) = w .end ∙ rw done in
-      rw (ends, begins) (omega (arith, length-append (imageOf b) behind))
-
-  pub written-lent : e' ≡ length (take e' buffer')
-  written-lent = sym (length-take-le e' buffer' written-within)
 
 -- Reading what was written, whatever bytes follow it, gives the table, byte for byte, and the end where its image ends.
 pub read-saved : {b buffer buffer' slice slice' : List ℕ} {e e' z z' r : ℕ} → WriteAnswer b buffer e 0 buffer' e' → (rest : List ℕ)

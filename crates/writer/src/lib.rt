@@ -65,7 +65,7 @@ fn put_contents(buffer: &mut [u8], from: usize, t: &[u8]) -> usize
     end
 }
 
-// The bodies one behind another: the writer of each gets the part of the buffer that starts at its offset.
+// The bodies one behind another: who writes a body is lent the buffer from there on, and sees nothing before it.
 fn put_bodies(buffer: &mut [u8], from: usize, t: &[u8]) -> usize
     requires { ⌜ Savable (now t) ⌝ }
     requires { ⌜ from + length (flatten (bodies (tableIn (now t)))) ≤ length (now buffer) ⌝ }

@@ -1,4 +1,4 @@
--- `rehearse::main` ends, and writes what the rehearsal left in the buffer. Assumes nothing.
+-- `rehearse::main` is safe and ends. It promises nothing: what is read and written rests on the contracts that `io` and `libc` assume of C functions.
 use borrow.Author.Needs.{needs}
 use Rattle.buffer.proofs.WroteLaws.{wrote-within, wrote-lent}
 use Rattle.rehearse.proofs.main.Statement.{statement}

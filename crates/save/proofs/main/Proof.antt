@@ -1,4 +1,4 @@
--- `save::main` ends, and writes what the function left in the buffer to the stream that it told. Assumes nothing.
+-- `save::main` is safe and ends. It promises nothing: what is read and written rests on the contracts that `io` and `libc` assume of C functions.
 use borrow.Author.Needs.{needs}
 use Rattle.rehearsal.proofs.SavedTheorems.{image-within, image-lent, told-within, told-lent}
 use Rattle.save.proofs.main.Statement.{statement}
