@@ -3,7 +3,7 @@ use Prim.Native.Nat.{ℕ, _+_, _≤_}
 use mathlib.Core.Path.{_≡_, _∙_}
 use mathlib.Core.List.{List}
 use lib.ListN.{length}
-use Rattle.algorithm.specs.Table.{entry, Server, absent, server, termAt, withServer, withMark, withRole, withTerm, withConfig, withEntry, positions}
+use Rattle.algorithm.specs.Table.{entry, Server, absent, server, termAt, withServer, withMark, withRole, withTerm, withConfig, withEntry, positions, configOf}
 use Rattle.algorithm.specs.Actions.{steppedDown, reconfigureAfter, sendAfter, spreadAfter, writeAfter, fetchAfter, commitAfter}
 use Rattle.table.specs.Layout.{tableIn}
 use Rattle.table.specs.Slice.{Holds, Held, Became, Within, seen}
@@ -35,12 +35,12 @@ module _ (b b' : List ℕ) (i : ℕ) (a : Row) (e : a ≡ seen (server (tableIn 
   spread-put j h = rw e at (h .holds)
 
   pub send-put : (j : ℕ)
-      → Became b b' (withServer (tableIn b) j (withConfig (record { set = a .figures .set; version = a .figures .version .0; term = a .figures .config .0 }) (server (tableIn b) j)))
+      → Became b b' (withServer (tableIn b) j (withConfig (configOf (a .figures .set) (a .figures .version .0) (a .figures .config .0)) (server (tableIn b) j)))
       → Holds b' (sendAfter (tableIn b) i j)
   send-put j h = rw e at (h .holds)
 
   pub reconfigure-put : (m : ℕ)
-      → Became b b' (withServer (tableIn b) i (withConfig (record { set = m; version = a .figures .version .0 + 1; term = a .figures .config .0 }) (server (tableIn b) i)))
+      → Became b b' (withServer (tableIn b) i (withConfig (configOf m (a .figures .version .0 + 1) (a .figures .config .0)) (server (tableIn b) i)))
       → Holds b' (reconfigureAfter (tableIn b) i m)
   reconfigure-put m h = rw e at (h .holds)
 

@@ -8,7 +8,7 @@ use mathlib.Core.List.{List, [], _∷_}
 use lib.ListN.{length, getD, set}
 use Rattle.members.specs.Members.{bit, member, within}
 use Rattle.words.specs.Lists.{nth, replace}
-use Rattle.algorithm.specs.Table.{Config, Server, Table, count, absent, server, withServer, withRole, withTerm, withConfig, withServers}
+use Rattle.algorithm.specs.Table.{Config, Server, Table, count, absent, server, withServer, withRole, withTerm, withConfig, withServers, configOf}
 use Rattle.algorithm.specs.Actions.{steppedDown, votersFrom, voted, electAfter}
 use Rattle.algorithm.proofs.Seen.{log-voted}
 use Rattle.table.specs.Layout.{tableIn}
@@ -92,12 +92,12 @@ module _ (b₀ b : List ℕ) (q v n k : ℕ) (h : Voted b₀ q v n b k) where
 pub elect-put : (b b₁ b₂ b₃ : List ℕ) (i q : ℕ) (a : Row) → a ≡ seen (server (tableIn b) i) → Within b i → within q (count (tableIn b)) ≡ true
     → Became b b₁ (voted (tableIn b) q (a .figures .term .0 + 1))
     → Became b₁ b₂ (withServer (tableIn b₁) i (withRole 1 (withTerm (a .figures .term .0 + 1) (server (tableIn b₁) i))))
-    → Became b₂ b₃ (withServer (tableIn b₂) i (withConfig (record { set = a .figures .set; version = a .figures .version .0; term = a .figures .term .0 + 1 }) (server (tableIn b₂) i)))
+    → Became b₂ b₃ (withServer (tableIn b₂) i (withConfig (configOf (a .figures .set) (a .figures .version .0) (a .figures .term .0 + 1)) (server (tableIn b₂) i)))
     → Holds b₃ (electAfter (tableIn b) i q)
 elect-put b b₁ b₂ b₃ i q a e w sets h k l =
     let t = tableIn b in
     let T : ℕ = a .figures .term .0 + 1 in
-    let C : Config = record { set = a .figures .set; version = a .figures .version .0; term = T } in
+    let C : Config = configOf (a .figures .set) (a .figures .version .0) T in
     let here : Within b₁ i = record { some = w .some; known = omega (arith, w .known, h .same) } in
     let put = then-put (withRole 1 (withTerm T (server (tableIn b₁) i))) (withConfig C) here k l .holds in
     rw e at (rw (its-table (h .holds), log-voted q T t (record { yes = rw sets tt }) i) at put)

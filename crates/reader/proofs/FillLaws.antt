@@ -7,7 +7,7 @@ use mathlib.Core.List.{List, [], _∷_, _++_, append-nil}
 use lib.ListN.{length, getD, set, take, drop, replicate, length-append, length-map, length-replicate}
 use lib.Seq.{take-all, length-take-le, getD-drop, set-at, getD-at, append-snoc}
 use Rattle.words.specs.Lists.{nth, replace}
-use Rattle.algorithm.specs.Table.{Config, entry, Log, entries, Server, Table, absent, server, withMarks, withServer, changed, withMark, withRole, withTerm, withConfig, withLog, withEntry, positions}
+use Rattle.algorithm.specs.Table.{Config, entry, Log, entries, Server, Table, absent, server, withMarks, withServer, changed, withMark, withRole, withTerm, withConfig, withLog, withEntry, positions, withServers, configOf}
 use Rattle.words.specs.Words.{words}
 use Rattle.words.proofs.WordLaws.{length-words}
 use Rattle.table.specs.Slice.{figuresOf, figured, Holds, Held, Became, Within, blank}
@@ -45,7 +45,7 @@ module _ (b₀ b d : List ℕ) (s : ℕ) where
       let t = tableIn b in
       let empty : t .servers ≡ replace (t .servers) s (withLog [] (server t s)) =
       sym (replace-nth (t .servers) s absent) ∙ ap (λ (l : Log). replace (t .servers) s (withLog l (server t s))) e in
-      record { became = stays h (λ i. record { servers = empty i; marks = t .marks }) }
+      record { became = stays h (λ i. withServers (empty i) t) }
 
   module _ (k : ℕ) (g : Logged b₀ b s d k) (w : Within b₀ s) where
     pub log-room : k < length d / 4 - 4 → Sized 1 d → length (server (tableIn b) s .log) < positions
@@ -77,10 +77,10 @@ module _ (b₀ b d : List ℕ) (s : ℕ) where
 
 pub figures-put : (b b₁ b₂ b₃ : List ℕ) (s : ℕ) (f : Figures) → Within b s → Became b b₁ (changed (tableIn b) s (withRole (f .role)))
     → Became b₁ b₂ (changed (tableIn b₁) s (withTerm (f .term .0)))
-    → Became b₂ b₃ (changed (tableIn b₂) s (withConfig (record { set = f .set; version = f .version .0; term = f .config .0 })))
+    → Became b₂ b₃ (changed (tableIn b₂) s (withConfig (configOf (f .set) (f .version .0) (f .config .0))))
     → Became b b₃ (withServer (tableIn b) s (figured f (server (tableIn b) s .log)))
 figures-put b b₁ b₂ b₃ s f w p q u =
-    let C : Config = record { set = f .set; version = f .version .0; term = f .config .0 } in
+    let C : Config = configOf (f .set) (f .version .0) (f .config .0) in
     again (λ x. withTerm (f .term .0) (withRole (f .role) x)) (withConfig C) w (again (withRole (f .role)) (withTerm (f .term .0)) w p q) u
 
 pub server-filled : (b b₁ b₂ d : List ℕ) (s : ℕ) (f : Figures) → Within b s → Became b b₁ (changed (tableIn b) s (withLog (serverIn d .log)))
@@ -105,7 +105,7 @@ padded-more (suc n) (x ∷ w) (suc k) h l = ap (λ (m : List ℕ). x ∷ m) (pad
 module _ (b₀ b d : List ℕ) where
   pub marks-none : Held b → tableIn b .marks ≡ replicate positions 0 → Marking b b d 0
   unfolding padded
-  marks-none h e = record { became = stays h (λ i. record { servers = tableIn b .servers; marks = e i }) }
+  marks-none h e = record { became = stays h (λ i. withMarks (e i) (tableIn b)) }
 
   module _ (k : ℕ) (g : Marking b₀ b d k) where
     pub marks-more : (b' : List ℕ) (v : ℕ) → k < length d / 4 → Sized 0 d → v ≡ getD (words d) k 0
@@ -127,7 +127,7 @@ module _ (b₀ b d : List ℕ) where
 
 -- the table read, of whose servers all but the first k are absent
 abbrev partly : List ℕ → ℕ → Table
-partly im k = record { servers = serversTo k im ++ replicate (countIn im - k) absent; marks = marksIn (body im 0) }
+partly im k = withServers (serversTo k im ++ replicate (countIn im - k) absent) (readTable im)
 
 pub record Filled (im b : List ℕ) (k : ℕ) : Type 0 where
   pub within : k ≤ countIn im
@@ -178,7 +178,7 @@ module _ (im b : List ℕ) (n : ℕ) (e : n ≡ countIn im) where
         let none : countIn im - k ≡ 0 = omega arith in
         let every : partly im k .servers ≡ readTable im .servers =
         ap (λ (j : ℕ). serversTo k im ++ replicate j absent) none ∙ append-nil (serversTo k im) ∙ ap (λ (j : ℕ). serversTo j im) all in
-        subst (λ (ss : List Server). Holds b (record { servers = ss; marks = marksIn (body im 0) })) every (g .holds)
+        subst (λ (ss : List Server). Holds b (withServers ss (readTable im))) every (g .holds)
 
 -- ---- the marks among a blank table
 

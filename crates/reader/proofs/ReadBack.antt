@@ -10,7 +10,7 @@ use lib.Seq.{take-suc, take-length, take-all}
 use borrow.Author.Tests.{le-ltb, eq-eqb}
 use Rattle.words.specs.Refusal.{first}
 use Rattle.words.proofs.Tests.{Passes, together, is-equal, is-at-most, is-true}
-use Rattle.algorithm.specs.Table.{Server, Table, absent, count, ceiling, positions, soundServer, broken, trimmed, soundCount}
+use Rattle.algorithm.specs.Table.{Server, Table, absent, count, ceiling, positions, soundServer, broken, trimmed, soundCount, withServers, withMarks}
 use Rattle.words.specs.Lists.{nth, every, between}
 use Rattle.words.proofs.Lists.{every-nth}
 use Rattle.algorithm.proofs.Sound.{SoundTable, table-sound}
@@ -163,7 +163,7 @@ module _ (t : Table) (h : broken t ≡ false) where
     table =
         let servers = servers-to (count t) (omega arith) ∙ take-length (t .servers) in
         let marks = ap marksIn (its-body t short rest 0 (omega arith)) ∙ marks-back (t .marks) low (shape .marked) in
-        λ d. record { servers = servers d; marks = marks d }
+        λ d. withServers (servers d) (withMarks (marks d) t)
 
     end : readEnd im ≡ length (image t)
     end =

@@ -2,7 +2,7 @@
 ghost use mathlib.Core.Path.{_≡_};
 ghost use Prim.Native.Nat.{_≤_, _<_};
 ghost use lib.ListN.{length, getD};
-ghost use Rattle.algorithm.specs.Table.{entry, count, server, termAt, mark, changed, withMark, withRole, withTerm, withConfig, withEntry, withoutLast, positions, last};
+ghost use Rattle.algorithm.specs.Table.{configOf, entry, count, server, termAt, mark, changed, withMark, withRole, withTerm, withConfig, withEntry, withoutLast, positions, last};
 ghost use Rattle.table.specs.Layout.{rowWords, row, tableIn};
 ghost use Rattle.table.specs.Slice.{Held, Became, Within, seen};
 use crate::figures::Figures;
@@ -175,7 +175,7 @@ pub fn put_term(t: &mut [u8], s: usize, v: Term)
 pub fn put_config(t: &mut [u8], s: usize, set: u16, version: Version, config: Term)
     requires { ⌜ Held (now t) ⌝ }
     requires { ⌜ Within (now t) s ⌝ }
-    ensures { λ _. ⌜ Became (now (t .entry)) (now (t .exit)) (changed (tableIn (now (t .entry))) s (withConfig (record { set = set; version = version .0; term = config .0 }))) ⌝ }
+    ensures { λ _. ⌜ Became (now (t .entry)) (now (t .exit)) (changed (tableIn (now (t .entry))) s (withConfig (configOf set (version .0) (config .0)))) ⌝ }
 {
     let at = ROW * s;
     put(t, at + SET, set as u32);

@@ -8,7 +8,7 @@ use lib.ListN.{length, getD, set, drop, replicate, length-set, length-append, le
 use borrow.Author.Fill.{fill-none, fill-more}
 use lib.Seq.{drop-length, set-at, getD-at, append-snoc}
 use Rattle.words.specs.Lists.{nth, replace}
-use Rattle.algorithm.specs.Table.{Server, Table, count, absent, changed, withConfig, freshServer, fresh, positions, mostServers, withServers}
+use Rattle.algorithm.specs.Table.{Server, Table, count, absent, changed, withConfig, freshServer, fresh, positions, mostServers, withServers, configOf}
 use Rattle.words.specs.Words.{words, Put}
 use Rattle.table.specs.Layout.{tableBytes, padded, rows, layout, tableIn, rowWords, tableWords}
 use Rattle.table.specs.Slice.{AllRoomy, Holds, Held, Became, Within, blank}
@@ -84,7 +84,7 @@ pub record Given (b : List ℕ) (n m k : ℕ) : Type 0 where
 
 -- one server more
 partly-next : (n m k : ℕ) → k < n
-    → changed (partly n m k) (k + 1) (withConfig (record { set = m; version = 1; term = 0 }))
+    → changed (partly n m k) (k + 1) (withConfig (configOf m 1 0))
     ≡ partly n m (k + 1)
 unfolding nth replace
 partly-next n m k h =
@@ -115,7 +115,7 @@ module _ (b : List ℕ) (n m : ℕ) where
     given-within h = record { some = omega arith; known = rw (its-table (g .holds)) (omega (arith, many)) }
 
     pub given-more : (b' : List ℕ) → k < n
-        → Became b b' (changed (tableIn b) (k + 1) (withConfig (record { set = m; version = 1; term = 0 })))
+        → Became b b' (changed (tableIn b) (k + 1) (withConfig (configOf m 1 0)))
         → Given b' n m (k + 1)
     given-more b' h c =
         record {
