@@ -12,7 +12,7 @@ use Rattle.algorithm.specs.declared.Reply.the-variants.{Taken, Refused}
 use Rattle.algorithm.specs.Table.{Table, count, broken, server}
 use Rattle.algorithm.specs.Actions.{byte, kindOf, iOf, jOf, setOf, usesSet, usesJ, Action, unknown, elect, reconfigure, send, spread, write, fetch, rollBack, commit, actionOf, electRefusals, reconfigureRefusals, sendRefusals, spreadRefusals, writeRefusals, fetchRefusals, rollBackRefusals, commitRefusals, electAfter, reconfigureAfter, sendAfter, spreadAfter, writeAfter, fetchAfter, rollBackAfter, commitAfter}
 
--- 0 for taken, and a refusal's own number
+-- the number of a reply: 0 for taken, and a refusal's own
 abbrev pub numberOf : Reply → ℕ
 numberOf Taken = 0
 numberOf (Refused k) = k

@@ -172,8 +172,6 @@ soundCount n = between 1 mostServers n
 unfoldable pub broken : Table → Bool
 broken t = not (soundCount (count t) && every (soundServer (count t)) (t .servers) && soundMarks (t .marks))
 
--- ---- a fresh table
-
 -- a server before any action, with the set M
 abbrev pub freshServer : ℕ → Server
 freshServer M = serverWith 0 0 (configOf M 1 0) []
@@ -194,6 +192,8 @@ kept m (x ∷ ms) = m ∷ x ∷ ms
 unfoldable pub trimmed : List ℕ → List ℕ
 trimmed [] = []
 trimmed (m ∷ ms) = kept m (trimmed ms)
+
+-- ---- comparisons
 
 -- the numbers a and p come after b and q: by the first, and where these are equal by the second
 abbrev pub later : ℕ → ℕ → ℕ → ℕ → Bool

@@ -70,7 +70,7 @@ laid im e = eqb (offset im e) (start im e) && mayHave e (size im e) && leb (stop
 unfoldable pub laidOut : List ℕ → Bool
 laidOut im = leb (firstBody (countIn im)) (length im) && allBelow (countIn im + 1) (laid im)
 
--- the part of the input that entry e names
+-- of the bodies: the part of the input that entry e names
 abbrev pub body : List ℕ → ℕ → List ℕ
 body im e = part im (offset im e) (size im e)
 

@@ -104,7 +104,7 @@ playedLines t p =
     let r = run t (wholeActions p) in
     repliedLines (r .replies) ++ (cutLines p ++ tableLines (r .table))
 
--- the case's nine actions: kind, i, j and the set of each
+-- the nine actions of the case that document 01 prints: kind, i, j and the set of each
 abbrev pub plan : List ℕ
 plan =
     actionBytes 1 1 0 3
@@ -117,7 +117,7 @@ plan =
     ++ actionBytes 2 1 0 15
     ++ actionBytes 1 3 0 6
 
--- what it must print
+-- what that case must print
 abbrev pub lines : List String
 lines =
     "1 taken\n"
