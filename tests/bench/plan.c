@@ -1,9 +1,12 @@
-/* plan SERVERS > FILE: a fresh table of that many servers, then a fixed guided plan for it. The same bytes each time,
- * so that counts of instructions taken on different days and engines can be held against each other. */
+/* plan SERVERS [input] > FILE: a fresh table of that many servers, then a fixed guided plan for it; as an input of the programs, the
+ * table's image and as much of the plan as they take. The same bytes each time, so that counts of instructions taken on different
+ * days and engines can be held against each other. */
 #include <stdio.h>
 #include <stdlib.h>
+#include <string.h>
 
 #include "generate.h"
+#include "image.h"
 #include "plain.h"
 
 enum { PLAN_ACTIONS = 20000, PLAN_SEED = 2 };
@@ -32,12 +35,16 @@ int main(int count, char **arguments)
     static uint8_t actions[ACTION_BYTES * PLAN_ACTIONS];
     uint32_t n = count > 1 ? (uint32_t)strtoul(arguments[1], NULL, 10) : 0;
     if (plain_fresh(table, TABLE_BYTES, n, n <= MOST_SERVERS ? all_servers(n) : 0) != 0) {
-        fputs("usage: plan SERVERS > FILE, with 1 to 16 servers\n", stderr);
+        fputs("usage: plan SERVERS [input] > FILE, with 1 to 16 servers\n", stderr);
         return EXIT_FAILURE;
     }
+    bool as_input = count > 2 && strcmp(arguments[2], "input") == 0;
+    uint8_t image[MOST_IMAGE_BYTES];
+    size_t image_len = image_of(table, image);
+    size_t taken = as_input ? (MOST_INPUT_BYTES - image_len) / ACTION_BYTES : PLAN_ACTIONS;
     struct source source = {PLAN_SEED};
-    bool written = fwrite(table, TABLE_BYTES, 1, stdout) == 1;
+    bool written = fwrite(as_input ? image : table, as_input ? image_len : TABLE_BYTES, 1, stdout) == 1;
     draw_guided_plan(&source, &even_temper, table, PLAN_ACTIONS, actions);
-    written = written && fwrite(actions, sizeof actions, 1, stdout) == 1 && fflush(stdout) == 0;
+    written = written && fwrite(actions, ACTION_BYTES, taken, stdout) == taken && fflush(stdout) == 0;
     return written ? EXIT_SUCCESS : EXIT_FAILURE;
 }

@@ -1,6 +1,9 @@
-/* plain_rehearse < INPUT: prints what the program rehearse has to print, by the plain reader and the plain engine. */
+/* plain_rehearse [save] < INPUT: prints what the program rehearse has to print, or the program save, by the plain reader and the
+ * plain engine. */
+#include <stdbool.h>
 #include <stdio.h>
 #include <stdlib.h>
+#include <string.h>
 
 #include "image.h"
 #include "plain_image.h"
@@ -41,17 +44,25 @@ static void print_marks(const uint8_t *table)
     putchar('\n');
 }
 
+/* Whether the input is played; why not is told. */
+static bool read_table(const uint8_t *input, size_t length, uint8_t *table, uint64_t *end, FILE *told)
+{
+    if (length > MOST_INPUT_BYTES) {
+        fputs("too long\n", told);
+        return false;
+    }
+    uint32_t reply = plain_read(input, length, table, TABLE_BYTES, end);
+    if (reply != TAKEN) {
+        fprintf(told, "bad site %u\n", reply);
+    }
+    return reply == TAKEN;
+}
+
 static void rehearse(const uint8_t *input, size_t length)
 {
     uint8_t table[TABLE_BYTES];
     uint64_t end;
-    if (length > MOST_INPUT_BYTES) {
-        puts("too long");
-        return;
-    }
-    uint32_t reply = plain_read(input, length, table, TABLE_BYTES, &end);
-    if (reply != TAKEN) {
-        printf("bad site %u\n", reply);
+    if (!read_table(input, length, table, &end, stdout)) {
         return;
     }
     print_replies(table, input + end, length - end);
@@ -61,7 +72,21 @@ static void rehearse(const uint8_t *input, size_t length)
     print_marks(table);
 }
 
-int main(void)
+static void save(const uint8_t *input, size_t length)
+{
+    uint8_t table[TABLE_BYTES];
+    uint8_t image[MOST_IMAGE_BYTES];
+    uint64_t end;
+    if (!read_table(input, length, table, &end, stderr)) {
+        return;
+    }
+    for (size_t at = end; length - at >= ACTION_BYTES; at += ACTION_BYTES) {
+        plain_play(table, input + at);
+    }
+    fwrite(image, image_of(table, image), 1, stdout);
+}
+
+int main(int count, char **arguments)
 {
     /* One byte more than is allowed tells a longer input from the longest. */
     static uint8_t input[MOST_INPUT_BYTES + 1];
@@ -69,6 +94,10 @@ int main(void)
     if (ferror(stdin)) {
         return EXIT_FAILURE;
     }
-    rehearse(input, length);
+    if (count > 1 && strcmp(arguments[1], "save") == 0) {
+        save(input, length);
+    } else {
+        rehearse(input, length);
+    }
     return fflush(stdout) == 0 ? EXIT_SUCCESS : EXIT_FAILURE;
 }
