@@ -33,7 +33,7 @@ module _ (n M : ℕ) where
       let e : length (server (fresh n M) k .log) ≡ 0 = ⊎-elim (λ e. ap (λ s. length (s .log)) e) (λ e. ap (λ s. length (s .log)) e) (server-fresh n M k) in
       omega (arith, h .some, h .within)
 
-  no-mark : {p u : ℕ} → Marked (mark (fresh n M)) p u → ⊥
+  pub no-mark : {p u : ℕ} → Marked (mark (fresh n M)) p u → ⊥
   unfolding nth
   no-mark {p} m = omega (arith, m .is, m .positive, unmarked p)
     where

@@ -81,7 +81,7 @@ module _ (q T′ : ℕ) where
   count-voted t = length-voters (t .servers) 1
 
   module _ (t : Table) (sets : Passes (within q (count t))) where
-    server-voted : (n : ℕ) → server (voted t q T′) n ≡ cond (member n q) (steppedDown T′ (server t n)) (server t n)
+    pub server-voted : (n : ℕ) → server (voted t q T′) n ≡ cond (member n q) (steppedDown T′ (server t n)) (server t n)
     unfolding nth
     server-voted zero = refl
     server-voted (suc m) = go (decLt m (count t))

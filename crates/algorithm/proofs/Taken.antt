@@ -47,7 +47,7 @@ is-prefix (e ∷ l) (d ∷ m) f =
     together (is-equal (f .same 1 (omega arith)))
     (is-prefix l m (record { short = omega (arith, f .short); same = elim [ zero ↦ λ _. refl | suc k ↦ λ h. f .same (suc (suc k)) (omega arith) ] }))
 
-some-marked : (ms : List ℕ) (u : ℕ) → Passes (someMarked ms u) → (p : ℕ) × (nth ms p 0 ≡ u)
+pub some-marked : (ms : List ℕ) (u : ℕ) → Passes (someMarked ms u) → (p : ℕ) × (nth ms p 0 ≡ u)
 unfolding someMarked nth
 some-marked ms u h = let (k, e) = go ms h in (suc k, e)
   where
@@ -55,7 +55,7 @@ some-marked ms u h = let (k, e) = go ms h in (suc k, e)
     go [] h = absurd (h .yes)
     go (m ∷ ms) h = ⊎-elim (λ e. (0, equal e)) (λ r. let (k, e) = go ms r in (suc k, e)) (either {a = eqb m u} h)
 
-holds-marked : (t : Table) (u : ℕ) (l : Log) (k : ℕ) → Passes (holdsMarked k t u l) → (p : ℕ) → 1 ≤ p → p ≤ k → mark t p ≡ u → HasEntry l p u
+pub holds-marked : (t : Table) (u : ℕ) (l : Log) (k : ℕ) → Passes (holdsMarked k t u l) → (p : ℕ) → 1 ≤ p → p ≤ k → mark t p ≡ u → HasEntry l p u
 unfolding holdsMarked
 holds-marked t u l zero h p a b e = absurd (omega arith)
 holds-marked t u l (suc k) h p a b e =
@@ -68,7 +68,7 @@ holds-marked t u l (suc k) h p a b e =
     (eq-or-lt-of-le b)
 
 -- marks stand at the positions 1 to 64
-mark-range : {t : Table} → SoundTable t → (p : ℕ) → 0 < mark t p → (1 ≤ p) × (p ≤ positions)
+pub mark-range : {t : Table} → SoundTable t → (p : ℕ) → 0 < mark t p → (1 ≤ p) × (p ≤ positions)
 unfolding nth
 mark-range h zero o = absurd (omega arith)
 mark-range {t} h (suc k) o = (omega arith, go (decLe (suc k) positions))

@@ -21,7 +21,8 @@ NoneHold rs = (k : ℕ) → Fails (holdsIn k rs)
 abbrev pub lacks : ℕ → List Refusal → Bool
 lacks k rs = every (λ r. not (eqb (r .number) k)) rs
 
-one-more : (r : Refusal) (rs : List Refusal) → Fails (r .holds) → NoneHold rs → NoneHold (r ∷ rs)
+-- a refusal that fails before some of which none holds
+pub one-more : (r : Refusal) (rs : List Refusal) → Fails (r .holds) → NoneHold rs → NoneHold (r ∷ rs)
 one-more r rs h f k = cond-elim Fails (eqb (r .number) k) (λ _. h) (λ _. f k)
 
 -- if k is given, and no refusal of the first list has that number, none of them holds

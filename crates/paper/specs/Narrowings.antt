@@ -1,0 +1,56 @@
+-- What document 01 asks beyond Algorithm 2, a predicate each. The first six are the narrowings that it lists itself (the ceilings are three
+-- predicates); the last is not on its list and stands in its action 8. In a table that a run reaches, 2 and the last ask nothing
+-- (proofs/Reached.antt).
+-- Assumes nothing.
+use Prim.Native.Nat.{ℕ, _<_}
+use mathlib.Core.Logic.{_≢_}
+use mathlib.Core.Path.{_≡_}
+use lib.ListN.{length}
+use Rattle.paper.specs.Paper.{Set, _∈_, Primary, State, at, CommittedAt, Action, Reconfig, BecomeLeader, CommitEntry, SendConfig, UpdateTerms, GetEntries, RollbackEntries, ClientRequest}
+
+-- 1, the ceilings: a term has a largest value
+abbrev pub TermCeiling : State → ℕ → Type 0
+TermCeiling s i = s .term i < 1000000000
+
+-- so has a version
+abbrev pub VersionCeiling : State → ℕ → Type 0
+VersionCeiling s i = s .configVersion i < 1000000000
+
+-- and so has a log's length
+abbrev pub LogCeiling : State → ℕ → Type 0
+LogCeiling s i = length (s .log i) < 64
+
+-- 2, refusal 24: the position is not committed with another term
+abbrev pub MarkedOnce : State → ℕ → Type 0
+MarkedOnce s i = (u : ℕ) → s .committed (length (s .log i)) u → u ≡ s .term i
+
+-- 3, one server is added or removed: there is one server in which the sets differ, and no other
+abbrev pub OneServer : State → ℕ → Set → Type 0
+OneServer s i new = (x : ℕ) × (s .config i x ≢ new x) × ((y : ℕ) → s .config i y ≢ new y → y ≡ x)
+
+-- 4, the leader is in its own new set
+abbrev pub LeaderStays : ℕ → Set → Type 0
+LeaderStays i new = i ∈ new
+
+-- 5, an entry of its own term is committed, also while nothing is
+abbrev pub OwnCommit : State → ℕ → Type 0
+OwnCommit s i = (p : ℕ) × (u : ℕ) × CommittedAt s (s .term i) p u
+
+-- 6, the sender is primary
+abbrev pub SenderLeads : State → ℕ → Type 0
+SenderLeads s i = s .state i ≡ Primary
+
+-- beyond the list: the leader's own last entry is of its own term, though it need not be in Q
+abbrev pub OwnEntry : State → ℕ → Type 0
+OwnEntry s i = at (s .log i) (length (s .log i)) ≡ s .term i
+
+-- which of them stand above which action
+abbrev pub Narrowed : State → Action → Type 0
+Narrowed s (Reconfig i new) = VersionCeiling s i × LeaderStays i new × OneServer s i new × OwnCommit s i
+Narrowed s (SendConfig i j) = SenderLeads s i
+Narrowed s (BecomeLeader i Q) = TermCeiling s i
+Narrowed s (UpdateTerms i j) = Unit {0}
+Narrowed s (ClientRequest i) = LogCeiling s i
+Narrowed s (GetEntries i j) = Unit {0}
+Narrowed s (RollbackEntries i j) = Unit {0}
+Narrowed s (CommitEntry i Q) = OwnEntry s i × MarkedOnce s i
