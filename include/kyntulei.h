@@ -5,13 +5,14 @@
  *   - a pointer is valid for the length given beside it, for writing too where it is not const; where that length is
  *     0 it is not followed and may be NULL. It may stand at any address: no alignment is asked
  *   - slices lent to one call do not overlap
- *   - `end` points to a number of its own, aligned as C aligns it, outside every slice of the call
+ *   - `end` and `reply` point to a number of their own, aligned as C aligns it, outside every slice of the call
  *   - while a call lasts, no other thread is at what it was lent, but to read what is const
  * Nothing is kept between calls: the table slice is the whole state, and calls on different slices may run at once.
  *
  * THE TABLE SLICE is 17 rows of 70 unsigned words of 4 bytes, low byte first: 4,760 bytes.
  *   Row 0:                  word 0       n, the number of servers, 1 to 16
- *                           words 1..5   0
+ *                           word 1       the rule: 0 for rule 1, 1 for rule 2
+ *                           words 2..5   0
  *                           words 6..69  the marks of positions 1..64: a committed term, or 0
  *   Row s, for server s:    word 0       role: 0 secondary, 1 primary
  *                           word 1       term, up to 1,000,000,000; a primary's is at least 1
@@ -26,7 +27,9 @@
  * kyntulei_write makes it of the slice. Here, too, the low byte of a number leads.
  *   Bytes 0..3              the letters SITE
  *   Byte 4                  n, 1 to 16
- *   Bytes 5..7              0
+ *   Byte 5                  0
+ *   Byte 6                  the rule: 0 for rule 1, 1 for rule 2
+ *   Byte 7                  0
  *   Bytes 8..11+4n          the contents: an entry for the marks and behind it one for every server, n+1 in all. An
  *                           entry is 2 bytes of offset, where the body starts in the image, and 2 bytes of length
  *   From byte 12+4n         the bodies, in the order of their entries and without gaps
@@ -51,8 +54,14 @@
  *   7 roll back    i, j     i's log, held against j's, loses an entry
  *   8 commit       i, set   i's last entry is marked, if the servers in set have it
  *
- * REPLIES. 0 says taken. Any other number is a refusal, the table then keeps every byte it had; of several grounds
- * the one with the smallest number is named.
+ * A REPLY has 8 bytes, as an action has. Where it is given as one number, the low byte of that is byte 0.
+ *   Byte 0                  its number: 0 says taken, any other is a refusal
+ *   Bytes 1..3              0
+ *   Bytes 4..5, 6..7        under rule 2, of refusal 13: a majority of the old set and one of the new without a common
+ *                           server, as sets, low byte first; of all such pairs the one whose old majority is the
+ *                           lowest number, and among these the one with the lowest new majority. Else 0
+ *
+ * REFUSALS. The table keeps every byte it had; of several grounds the one with the smallest number is named.
  *    1  the table is broken (looked at before the action, so also for an action of a wrong length)
  *    2  the action's length is not 8, or its kind is not one of the eight
  *    3  a byte that this kind does not name is not 0
@@ -67,7 +76,8 @@
  *   10  elect: somebody's log in the set is ahead of i's (last entry first, then length)
  *   11  the counter that has to grow is at 1,000,000,000: i's term (elect), i's version (reconfigure)
  *   12  reconfigure: the new set leaves i out
- *   13  reconfigure: old and new set do not differ in exactly one server
+ *   13  reconfigure, rule 1: old and new set do not differ in exactly one server; rule 2: some majority of the old set
+ *       and some majority of the new one have no server in common. The unchanged set is 13 under rule 1 alone
  *   14  reconfigure: not more than half of i's set share the version and the term of i's configuration
  *   15  reconfigure: not more than half of i's set are at i's term
  *   16  reconfigure: nothing is marked with i's term, or not more than half of i's set are at that term and have
@@ -95,31 +105,33 @@ extern "C" {
 size_t kyntulei_table_bytes(void);
 
 /* Fills `table`, whatever it held, with n servers that are all secondary at term 0 with an empty log and with one
- * configuration (`set`, version 1, term 0), and with no marks.
+ * configuration (`set`, version 1, term 0), and with no marks, under rule 1 where `rule` is 0 and rule 2 where it is 1.
+ * A table keeps its rule, whatever is played on it.
  *
  * Answers 0 when filled. Otherwise nothing is written, and the answer is, asked in this order:
- *    1  table_len is not kyntulei_table_bytes()
+ *    1  table_len is not kyntulei_table_bytes(), or rule is above 1
  *   32  n is not 1 to 16
  *    5  set is empty or reaches past server n (all 32 bits count) */
-uint32_t kyntulei_fresh(uint8_t *table, size_t table_len, uint32_t n, uint32_t set);
+uint32_t kyntulei_fresh(uint8_t *table, size_t table_len, uint32_t n, uint32_t set, uint32_t rule);
 
-/* Judges one action and, if it is taken, alters `table` accordingly. Answers 0 or a refusal of 1 to 24.
+/* Judges one action and, if it is taken, alters `table` accordingly. Answers 0 or a refusal of 1 to 24, and sets *reply,
+ * whatever the answer, to the whole reply as one number.
  *
  * Every length is allowed: table_len other than kyntulei_table_bytes() gives 1, and else action_len other than 8
  * gives 2. `action` is only read. The table is checked whole at each call; for many actions kyntulei_run checks it
  * but once. */
-uint32_t kyntulei_step(uint8_t *table, size_t table_len, const uint8_t *action, size_t action_len);
+uint32_t kyntulei_step(uint8_t *table, size_t table_len, const uint8_t *action, size_t action_len, uint64_t *reply);
 
-/* Plays `actions` in order, 8 bytes at a time, and writes the reply to each, one byte, into `replies`. A refused
+/* Plays `actions` in order, 8 bytes at a time, and writes the reply to each, 8 bytes, into `replies`. A refused
  * action leaves the table as it was and the run continues with the next. Answers how many replies were written.
  *
  * If actions_len is not a multiple of 8, the shorter rest counts as one more piece, replied to with 2. If the table
  * is broken, table_len other than kyntulei_table_bytes() included, every piece is replied to with 1 and the table is
  * not altered.
  *
- * The room in `replies` decides where a run stops: after replies_len pieces the rest is neither played nor replied
- * to. One reply for each piece needs (actions_len + 7) / 8 bytes; replies_len 0 plays nothing, and in a longer
- * `replies` the bytes past the answered number keep what they held. */
+ * The room in `replies` decides where a run stops: after replies_len / 8 pieces the rest is neither played nor replied
+ * to. As many bytes as `actions` has, rounded up to a multiple of 8, are enough for all; less than 8 play nothing, and
+ * the bytes past the last reply keep what they held. */
 uint64_t kyntulei_run(uint8_t *table, size_t table_len, const uint8_t *actions, size_t actions_len,
                       uint8_t *replies, size_t replies_len);
 
@@ -129,7 +141,7 @@ uint64_t kyntulei_run(uint8_t *table, size_t table_len, const uint8_t *actions, 
  * Answers 0 when filled. Otherwise neither `table` nor *end is written, and the answer is, asked in this order:
  *    1  table_len is not kyntulei_table_bytes()
  *   30  image_len is less than 8
- *   31  the image does not begin with SITE, or one of its bytes 5..7 is not 0
+ *   31  the image does not begin with SITE, byte 5 or 7 is not 0, or the rule in byte 6 is above 1
  *   32  n is not 1 to 16
  *   33  image_len ends within the contents or within a body; or an offset is not where the body before it ends (12+4n
  *       for the marks); or the marks' length is not 4 times 0 to 64, or a server's not 16 more than such a number

@@ -25,7 +25,7 @@ struct plan {
 
 struct playing {
     uint8_t table[TABLE_BYTES];
-    uint8_t replies[MOST_ACTIONS];
+    uint8_t replies[REPLY_BYTES * MOST_ACTIONS];
     uint8_t image[MOST_IMAGE_BYTES];
     uint64_t end;
 };
@@ -34,7 +34,7 @@ static void play_run(const struct engine *engine, const struct plan *plan, struc
 {
     memcpy(playing->table, plan->start, TABLE_BYTES);
     engine->run(playing->table, TABLE_BYTES, plan->actions, ACTION_BYTES * plan->count, playing->replies,
-                plan->count);
+                REPLY_BYTES * plan->count);
 }
 
 static void play_steps(const struct engine *engine, const struct plan *plan, struct playing *playing)
@@ -42,7 +42,9 @@ static void play_steps(const struct engine *engine, const struct plan *plan, str
     memcpy(playing->table, plan->start, TABLE_BYTES);
     for (size_t piece = 0; piece < plan->count; piece++) {
         const uint8_t *action = plan->actions + ACTION_BYTES * piece;
-        playing->replies[piece] = (uint8_t)engine->step(playing->table, TABLE_BYTES, action, ACTION_BYTES);
+        uint64_t reply;
+        engine->step(playing->table, TABLE_BYTES, action, ACTION_BYTES, &reply);
+        put_reply(playing->replies, piece, reply);
     }
 }
 
@@ -50,7 +52,7 @@ static void fill_fresh(const struct engine *engine, const struct plan *plan, str
 {
     uint32_t n = word(plan->start, SERVERS);
     for (size_t call = 0; call < CALLS; call++) {
-        playing->replies[call] = (uint8_t)engine->fresh(playing->table, TABLE_BYTES, n, all_servers(n));
+        playing->replies[call] = (uint8_t)engine->fresh(playing->table, TABLE_BYTES, n, all_servers(n), RULE_1);
     }
 }
 
@@ -122,11 +124,11 @@ static void report(const struct engine *engine, const struct plan *plan, const s
     size_t taken[KINDS] = {0};
     for (size_t piece = 0; piece < plan->count; piece++) {
         uint8_t kind = plan->actions[ACTION_BYTES * piece];
-        if (playing->replies[piece] == 0 && kind < KINDS) {
+        if (number_of(reply_at(playing->replies, piece)) == 0 && kind < KINDS) {
             taken[kind]++;
         }
     }
-    uint64_t mixed = digest(UINT64_C(0xcbf29ce484222325), playing->replies, plan->count);
+    uint64_t mixed = digest(UINT64_C(0xcbf29ce484222325), playing->replies, REPLY_BYTES * plan->count);
     mixed = digest(mixed, playing->table, TABLE_BYTES);
     printf("%s: %zu actions, taken by kind 1 to 8:", engine->name, plan->count);
     for (size_t kind = ELECT; kind <= COMMIT; kind++) {

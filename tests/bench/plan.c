@@ -34,7 +34,7 @@ int main(int count, char **arguments)
     static uint8_t table[TABLE_BYTES];
     static uint8_t actions[ACTION_BYTES * PLAN_ACTIONS];
     uint32_t n = count > 1 ? (uint32_t)strtoul(arguments[1], NULL, 10) : 0;
-    if (plain_fresh(table, TABLE_BYTES, n, n <= MOST_SERVERS ? all_servers(n) : 0) != 0) {
+    if (plain_fresh(table, TABLE_BYTES, n, n <= MOST_SERVERS ? all_servers(n) : 0, RULE_1) != 0) {
         fputs("usage: plan SERVERS [input] > FILE, with 1 to 16 servers\n", stderr);
         return EXIT_FAILURE;
     }

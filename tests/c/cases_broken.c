@@ -10,12 +10,17 @@ static void broken(struct scene *scene, const char *name)
     struct scene before = *scene;
     refused(scene, ready_action(SPREAD), 1, name);
     refused(scene, act(0, 0, 0, 0), 1, name);
-    uint32_t reply = scene->engine->step(scene->table, TABLE_BYTES, NULL, 0);
-    check(reply == 1, "%s: an action of no bytes replied %u", name, reply);
+    uint64_t reply = UINT64_MAX;
+    uint32_t number = scene->engine->step(scene->table, TABLE_BYTES, NULL, 0, &reply);
+    check(number == 1 && reply == 1, "%s: an action of no bytes replied %u", name, number);
 
     uint8_t actions[ACTION_BYTES + 3] = {SPREAD, 1, 4};
-    uint8_t replies[4] = {9, 9, 9, 9};
-    const uint8_t expected[4] = {1, 1, 9, 9};
+    uint8_t replies[4 * REPLY_BYTES];
+    uint8_t expected[4 * REPLY_BYTES];
+    memset(replies, 9, sizeof replies);
+    memset(expected, 9, sizeof expected);
+    put_reply(expected, 0, 1);
+    put_reply(expected, 1, 1);
     uint64_t played = scene->engine->run(scene->table, TABLE_BYTES, actions, sizeof actions, replies, sizeof replies);
     check(played == 2 && memcmp(replies, expected, sizeof replies) == 0, "%s: run's replies", name);
     check(memcmp(scene->table, before.table, TABLE_BYTES) == 0, "%s: table altered", name);
@@ -54,6 +59,11 @@ static void break_row_0(const struct engine *engine)
     broken_word(engine, 0, SERVERS, 17);
     broken_word(engine, 0, SERVERS, UINT32_MAX);
     every_byte_of(engine, 0, SERVERS, 4);
+    sound_word(engine, 0, RULE, RULE_2);
+    broken_word(engine, 0, RULE, 2);
+    broken_word(engine, 0, RULE, UINT32_MAX);
+    every_byte_of(engine, 0, RULE, RULE_1);
+    every_byte_of(engine, 0, RULE, RULE_2);
     for (size_t column = SPARE; column < MARKS; column++) {
         broken_word(engine, 0, column, 1);
         every_byte_of(engine, 0, column, 0);

@@ -12,7 +12,8 @@ static uint32_t reply_to_byte(size_t at, uint32_t value)
 {
     if (at < OPENING_BYTES) {
         bool is_number = value >= 1 && value <= MOST_SERVERS;
-        return at != SERVERS_AT ? 31 : is_number ? 33 : 32;
+        bool is_rule = at == RULE_AT && value <= RULE_2;
+        return is_rule ? 0 : at != SERVERS_AT ? 31 : is_number ? 33 : 32;
     }
     if (at < first_body_at(4)) {
         return 33;
@@ -36,9 +37,12 @@ static uint32_t reply_to_byte(size_t at, uint32_t value)
     }
 }
 
-/* Where a byte of a body that is not refused stands in the table. */
+/* Where the rule, or a byte of a body that is not refused, stands in the table. */
 static size_t place_in_table(size_t at)
 {
+    if (at == RULE_AT) {
+        return 4 * RULE;
+    }
     size_t in_bodies = at - first_body_at(4);
     size_t field = in_bodies % LOG_AT;
     size_t column = field < TERM_AT ? SET : field < VERSION_AT ? TERM : field < CONFIG_TERM_AT ? VERSION : CONFIG_TERM;
@@ -101,6 +105,7 @@ static void every_byte(const struct scene *scene)
 static struct scene full_scene(const struct engine *engine, uint32_t n)
 {
     struct scene scene = fresh_scene(engine, n, 1);
+    give_rule(&scene, RULE_2);
     fill_figures(&scene, MOST_ENTRIES, MOST_ENTRIES);
     return scene;
 }

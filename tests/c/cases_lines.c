@@ -147,17 +147,19 @@ static void whole_case(const struct engine *engine)
         act(RECONFIGURE, 1, 0, 15), act(SEND, 1, 2, 0),  act(RECONFIGURE, 1, 0, 15),
         act(COMMIT, 1, 0, 3), act(RECONFIGURE, 1, 0, 15), act(ELECT, 3, 0, 6),
     };
-    const uint8_t expected[] = {0, 0, 0, 14, 0, 16, 0, 0, 8};
+    const uint64_t expected[] = {0, 0, 0, 14, 0, 16, 0, 0, 8};
+    const size_t count = sizeof expected / sizeof *expected;
     uint8_t replies[sizeof expected];
     struct scene scene = fresh_scene(engine, 4, 7);
     struct scene stepped = scene;
     uint64_t played = engine->run(scene.table, TABLE_BYTES, plan[0].byte, sizeof plan, replies, sizeof replies);
-    check(played == sizeof expected, "rehearse's case: run plays 9 actions");
+    check(played == count, "rehearse's case: run plays 9 actions");
     check(memcmp(replies, expected, sizeof expected) == 0, "rehearse's case: replies of run");
 
-    for (size_t index = 0; index < sizeof expected; index++) {
-        uint32_t reply = engine->step(stepped.table, TABLE_BYTES, plan[index].byte, ACTION_BYTES);
-        check(reply == expected[index], "rehearse's case: action %zu replied %u", index + 1, reply);
+    for (size_t index = 0; index < count; index++) {
+        uint64_t reply = UINT64_MAX;
+        uint32_t number = engine->step(stepped.table, TABLE_BYTES, plan[index].byte, ACTION_BYTES, &reply);
+        check(number == expected[index] && reply == number, "rehearse's case: action %zu replied %u", index + 1, number);
     }
     struct scene after = fresh_scene(engine, 4, 7);
     give_role(&after, 1, PRIMARY, 1);

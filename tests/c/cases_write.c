@@ -60,6 +60,8 @@ static void fresh_and_full_tables(const struct engine *engine)
                 struct scene scene = fresh_scene(engine, n, all_servers(n));
                 fill_figures(&scene, counts[log], counts[mark]);
                 writes_image(engine, &scene, name);
+                give_rule(&scene, RULE_2);
+                writes_image(engine, &scene, name);
             }
         }
     }
@@ -75,6 +77,9 @@ static void broken_tables(const struct engine *engine)
         writes(engine, scene.table, lengths[which], MOST_BUFFER_BYTES, 1, &image, "write of a slice of another length");
         writes(engine, scene.table, lengths[which], 0, 1, &image, "write of such a slice into no buffer");
     }
+    give_rule(&scene, 2);
+    writes(engine, scene.table, TABLE_BYTES, MOST_BUFFER_BYTES, 1, &image, "write of a table with no rule");
+    give_rule(&scene, RULE_2);
     give_role(&scene, 2, 2, 1);
     writes(engine, scene.table, TABLE_BYTES, MOST_BUFFER_BYTES, 1, &image, "write of a broken table");
     writes(engine, scene.table, TABLE_BYTES, 0, 1, &image, "write of a broken table into no buffer");

@@ -10,8 +10,10 @@
 struct tally {
     uint64_t trials;
     uint64_t actions;
-    uint64_t given[NUMBERS];
-    uint64_t taken_of_kind[COMMIT + 1];
+    /* By the rule of the table; one whose rule is none counts for neither. */
+    uint64_t given[RULE_2 + 1][NUMBERS];
+    uint64_t taken_of_kind[RULE_2 + 1][NUMBERS];
+    uint64_t pairs;
 };
 
 static void fill_plan(struct source *source, struct trial *trial, size_t count)
@@ -74,12 +76,12 @@ static void draw_trial(struct source *source, struct trial *trial)
         draw_near_miss(source, trial);
     }
     size_t pieces = trial_pieces(trial);
-    trial->room = pieces;
+    trial->room = REPLY_BYTES * pieces;
     if (chance(source, 10)) {
         trial->actions_len -= below(source, ACTION_BYTES);
     }
     if (chance(source, 20)) {
-        trial->room = below(source, (uint32_t)pieces + 8);
+        trial->room = below(source, REPLY_BYTES * ((uint32_t)pieces + 8));
     }
 }
 
@@ -87,33 +89,41 @@ static void add_to_tally(struct tally *tally, const struct trial *trial, const s
 {
     tally->trials++;
     tally->actions += outcome->pieces;
+    uint32_t rule = word(trial->start, RULE);
+    if (rule > RULE_2) {
+        return;
+    }
     for (size_t piece = 0; piece < outcome->pieces; piece++) {
-        tally->given[outcome->replies[piece]]++;
-        if (outcome->replies[piece] == TAKEN) {
-            tally->taken_of_kind[trial->actions[ACTION_BYTES * piece]]++;
+        uint64_t reply = reply_at(outcome->replies, piece);
+        tally->given[rule][number_of(reply)]++;
+        tally->pairs += set_in(reply, OLD_SHIFT) != 0;
+        if (reply == TAKEN) {
+            tally->taken_of_kind[rule][trial->actions[ACTION_BYTES * piece]]++;
         }
     }
 }
 
+static bool report_counts(const char *what, const uint64_t (*counts)[NUMBERS], uint32_t from, uint32_t to)
+{
+    bool all_met = true;
+    printf("%s, under rule 1 and rule 2:\n", what);
+    for (uint32_t at = from; at <= to; at++) {
+        printf("  %2u: %llu %llu\n", at, (unsigned long long)counts[RULE_1][at], (unsigned long long)counts[RULE_2][at]);
+        all_met = all_met && counts[RULE_1][at] > 0 && counts[RULE_2][at] > 0;
+    }
+    return all_met;
+}
+
 static bool report_tally(const struct tally *tally)
 {
-    bool all_given = true;
-    printf("%llu actions in %llu trials; how often each number was given:\n", (unsigned long long)tally->actions,
-           (unsigned long long)tally->trials);
-    for (uint32_t number = 0; number < NUMBERS; number++) {
-        printf("  %2u: %llu\n", number, (unsigned long long)tally->given[number]);
-        all_given = all_given && tally->given[number] > 0;
-    }
-    printf("taken by kind 1 to 8:");
-    for (uint32_t kind = ELECT; kind <= COMMIT; kind++) {
-        printf(" %llu", (unsigned long long)tally->taken_of_kind[kind]);
-        all_given = all_given && tally->taken_of_kind[kind] > 0;
-    }
-    putchar('\n');
-    if (!all_given) {
+    printf("%llu actions in %llu trials, %llu pairs of majorities shown\n", (unsigned long long)tally->actions,
+           (unsigned long long)tally->trials, (unsigned long long)tally->pairs);
+    bool all_given = report_counts("how often each number was given", tally->given, TAKEN, NUMBERS - 1);
+    bool all_taken = report_counts("how often each kind was taken", tally->taken_of_kind, ELECT, COMMIT);
+    if (!all_given || !all_taken) {
         puts("FAILED: a number was never given, or a kind never taken");
     }
-    return all_given;
+    return all_given && all_taken;
 }
 
 static void report_difference(struct trial *trial, const struct engine *one, const struct engine *other)

@@ -106,22 +106,29 @@ static uint32_t supporters(const uint8_t *table, uint32_t i)
 /* Refusals that are reached only by an action with nothing else amiss. */
 static bool is_near(uint32_t reply)
 {
-    return reply >= LARGER_TERM && reply != LEAVES_OUT_ITSELF && reply != NOT_ONE_SERVER;
+    return reply >= LARGER_TERM && reply != LEAVES_OUT_ITSELF;
+}
+
+/* Two neighbours change places with what the set has of them, which only rule 2 may allow. */
+static uint32_t change_two(uint32_t set, uint32_t server, uint32_t n)
+{
+    return set ^ only(server) ^ only(server % n + 1);
 }
 
 /* An action of its kind at i that may be taken or just miss. Where no second server is named, `other` tells apart
- * what there is to offer: a vote by those who are for it, and by all. */
+ * what there is to offer, up to 2n: a vote by those who are for it, and by all; a change of one server, and of two. */
 static bool shape_action(const uint8_t *table, uint32_t i, uint32_t other, struct action *action)
 {
     uint32_t set = word(table + row_start(i), SET);
+    uint32_t n = word(table, SERVERS);
     action->i = i;
     switch (action->kind) {
     case ELECT:
         action->set = other == 1 ? willing_voters(table, i) : set;
         return other <= 2;
     case RECONFIGURE:
-        action->set = set ^ only(other);
-        return true;
+        action->set = other <= n ? set ^ only(other) : change_two(set, other - n, n);
+        return action->set != 0 && (other <= n || word(table, RULE) == RULE_2);
     case WRITE:
         return other == 1;
     case COMMIT:
@@ -129,7 +136,7 @@ static bool shape_action(const uint8_t *table, uint32_t i, uint32_t other, struc
         return other <= 2;
     default:
         action->j = other;
-        return true;
+        return other <= n;
     }
 }
 
@@ -140,7 +147,7 @@ static bool choose_action(struct source *source, const uint8_t *table, uint32_t 
     uint32_t n = word(table, SERVERS);
     uint32_t found = 0;
     for (uint32_t i = 1; i <= n; i++) {
-        for (uint32_t other = 1; other <= n; other++) {
+        for (uint32_t other = 1; other <= 2 * n; other++) {
             struct action action = {.kind = kind};
             if (!shape_action(table, i, other, &action)) {
                 continue;

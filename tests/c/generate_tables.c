@@ -95,7 +95,7 @@ void draw_fresh_table(struct source *source, uint8_t *table)
 {
     uint32_t n = between(source, 1, MOST_SERVERS);
     uint32_t set = chance(source, 50) ? all_servers(n) : (uint32_t)draw(source) & all_servers(n);
-    plain_fresh(table, TABLE_BYTES, n, set == 0 ? 1 : set);
+    plain_fresh(table, TABLE_BYTES, n, set == 0 ? 1 : set, between(source, RULE_1, RULE_2));
 }
 
 void lift_counters(struct source *source, uint8_t *table)
@@ -115,6 +115,7 @@ void draw_odd_table(struct source *source, uint8_t *table)
     struct floors floors = draw_floors(source);
     memset(table, 0, TABLE_BYTES);
     put_word(table, SERVERS, floors.n);
+    put_word(table, RULE, between(source, RULE_1, RULE_2));
     for (uint32_t server = 1; server <= floors.n; server++) {
         draw_server(source, &floors, table + row_start(server));
     }
@@ -139,6 +140,10 @@ void disturb_table(struct source *source, uint8_t *table)
         row = table;
         uint32_t length = word(model, LOG_LENGTH);
         column = MARKS + (length > 0 && chance(source, 70) ? length - 1 : below(source, MOST_ENTRIES));
+    }
+    if (chance(source, 5)) {
+        row = table;
+        column = RULE;
     }
     uint32_t value = word(row, column);
     switch (below(source, 4)) {

@@ -46,7 +46,7 @@ static const char *name_of(uint32_t feature)
 static void count_features(const struct input *input, uint64_t *times)
 {
     uint8_t table[TABLE_BYTES];
-    static uint8_t replies[MOST_INPUT_BYTES / ACTION_BYTES];
+    static uint8_t replies[REPLY_BYTES * (MOST_INPUT_BYTES / ACTION_BYTES)];
     uint64_t end;
     if (input->length > MOST_INPUT_BYTES) {
         times[TOO_LONG]++;
@@ -59,9 +59,9 @@ static void count_features(const struct input *input, uint64_t *times)
     }
     size_t actions_len = input->length - end;
     size_t count = actions_len / ACTION_BYTES;
-    plain_run(table, TABLE_BYTES, input->bytes + end, actions_len, replies, count);
+    plain_run(table, TABLE_BYTES, input->bytes + end, actions_len, replies, REPLY_BYTES * count);
     for (size_t piece = 0; piece < count; piece++) {
-        times[replies[piece]]++;
+        times[number_of(reply_at(replies, piece))]++;
     }
     times[CUT] += actions_len % ACTION_BYTES != 0;
     times[FULL] += input->length == MOST_INPUT_BYTES;

@@ -14,11 +14,15 @@ enum {
     ROW_WORDS = 70,
     ROW_BYTES = 4 * ROW_WORDS,
     TABLE_BYTES = (1 + MOST_SERVERS) * ROW_BYTES,
-    ACTION_BYTES = 8
+    ACTION_BYTES = 8,
+    REPLY_BYTES = 8
 };
 
 /* Row 0. */
-enum { SERVERS = 0, SPARE = 1, MARKS = 6 };
+enum { SERVERS = 0, RULE = 1, SPARE = 2, MARKS = 6 };
+
+/* The rules by their numbers, in a table and in its image. */
+enum { RULE_1, RULE_2 };
 
 /* A server's row. */
 enum { ROLE, TERM, SET, VERSION, CONFIG_TERM, LOG_LENGTH, ENTRIES };
@@ -56,6 +60,32 @@ static inline uint32_t word(const uint8_t *row, size_t column)
 static inline void put_word(uint8_t *row, size_t column, uint32_t value)
 {
     memcpy(row + 4 * column, &value, sizeof value);
+}
+
+/* A reply as one number: its low byte is the number of the refusal, 0 for taken, and above it stands what it shows. */
+static inline uint32_t number_of(uint64_t reply)
+{
+    return (uint32_t)(reply & 0xff);
+}
+
+/* Where the two majorities stand in it that refusal 13 shows under rule 2. */
+enum { OLD_SHIFT = 32, NEW_SHIFT = 48 };
+
+static inline uint32_t set_in(uint64_t reply, uint32_t shift)
+{
+    return (uint32_t)(reply >> shift & 0xffff);
+}
+
+static inline uint64_t reply_at(const uint8_t *replies, size_t piece)
+{
+    uint64_t reply;
+    memcpy(&reply, replies + REPLY_BYTES * piece, sizeof reply);
+    return reply;
+}
+
+static inline void put_reply(uint8_t *replies, size_t piece, uint64_t reply)
+{
+    memcpy(replies + REPLY_BYTES * piece, &reply, sizeof reply);
 }
 
 static inline void put_action(uint8_t *bytes, uint32_t kind, uint32_t i, uint32_t j, uint32_t set)

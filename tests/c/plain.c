@@ -61,7 +61,7 @@ bool plain_is_whole(const uint8_t *table, size_t table_len)
         return false;
     }
     uint32_t n = word(table, SERVERS);
-    if (n < 1 || n > MOST_SERVERS || !marks_are_whole(table)) {
+    if (n < 1 || n > MOST_SERVERS || word(table, RULE) > RULE_2 || !marks_are_whole(table)) {
         return false;
     }
     for (uint32_t server = 1; server <= n; server++) {
@@ -77,9 +77,9 @@ size_t plain_table_bytes(void)
     return TABLE_BYTES;
 }
 
-uint32_t plain_fresh(uint8_t *table, size_t table_len, uint32_t n, uint32_t set)
+uint32_t plain_fresh(uint8_t *table, size_t table_len, uint32_t n, uint32_t set, uint32_t rule)
 {
-    if (table_len != TABLE_BYTES) {
+    if (table_len != TABLE_BYTES || rule > RULE_2) {
         return BROKEN_TABLE;
     }
     if (n < 1 || n > MOST_SERVERS) {
@@ -90,6 +90,7 @@ uint32_t plain_fresh(uint8_t *table, size_t table_len, uint32_t n, uint32_t set)
     }
     memset(table, 0, TABLE_BYTES);
     put_word(table, SERVERS, n);
+    put_word(table, RULE, rule);
     for (uint32_t server = 1; server <= n; server++) {
         uint8_t *row = table + row_start(server);
         put_word(row, SET, set);
@@ -98,12 +99,13 @@ uint32_t plain_fresh(uint8_t *table, size_t table_len, uint32_t n, uint32_t set)
     return TAKEN;
 }
 
-uint32_t plain_step(uint8_t *table, size_t table_len, const uint8_t *action, size_t action_len)
+uint32_t plain_step(uint8_t *table, size_t table_len, const uint8_t *action, size_t action_len, uint64_t *reply)
 {
-    if (!plain_is_whole(table, table_len)) {
-        return BROKEN_TABLE;
+    *reply = BROKEN_TABLE;
+    if (plain_is_whole(table, table_len)) {
+        *reply = action_len == ACTION_BYTES ? plain_play(table, action) : NO_ACTION;
     }
-    return action_len == ACTION_BYTES ? plain_play(table, action) : NO_ACTION;
+    return number_of(*reply);
 }
 
 uint64_t plain_run(uint8_t *table, size_t table_len, const uint8_t *actions, size_t actions_len,
@@ -111,14 +113,15 @@ uint64_t plain_run(uint8_t *table, size_t table_len, const uint8_t *actions, siz
 {
     size_t whole_pieces = actions_len / ACTION_BYTES;
     size_t pieces = whole_pieces + (actions_len % ACTION_BYTES != 0);
-    size_t played = pieces < replies_len ? pieces : replies_len;
+    size_t room = replies_len / REPLY_BYTES;
+    size_t played = pieces < room ? pieces : room;
     bool whole = plain_is_whole(table, table_len);
     for (size_t piece = 0; piece < played; piece++) {
-        uint32_t reply = BROKEN_TABLE;
+        uint64_t reply = BROKEN_TABLE;
         if (whole) {
             reply = piece < whole_pieces ? plain_play(table, actions + ACTION_BYTES * piece) : NO_ACTION;
         }
-        replies[piece] = (uint8_t)reply;
+        put_reply(replies, piece, reply);
     }
     return played;
 }

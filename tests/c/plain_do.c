@@ -80,15 +80,18 @@ void plain_do(uint8_t *table, const struct action *action)
     }
 }
 
-uint32_t plain_play(uint8_t *table, const uint8_t *bytes)
+uint64_t plain_play(uint8_t *table, const uint8_t *bytes)
 {
     struct action action;
-    uint32_t reply = plain_parse(bytes, word(table, SERVERS), &action);
+    uint64_t reply = plain_parse(bytes, word(table, SERVERS), &action);
     if (reply == TAKEN) {
         reply = plain_judge(table, &action);
     }
     if (reply == TAKEN) {
         plain_do(table, &action);
+    }
+    if (reply == NO_SUCH_CHANGE && word(table, RULE) == RULE_2) {
+        reply |= plain_pair(table, &action);
     }
     return reply;
 }

@@ -128,6 +128,42 @@ static bool p1_holds(const uint8_t *table, const uint8_t *primary, uint32_t with
     return marked && reaches_majority(holders, word(primary, SET));
 }
 
+/* Two majorities part where the old set's can take so many servers of its own that the others leave the new set one. */
+static bool majorities_part(uint32_t old, uint32_t new)
+{
+    uint32_t needed = (uint32_t)__builtin_popcount(old) / 2 + 1;
+    uint32_t own = (uint32_t)__builtin_popcount(old & ~new);
+    uint32_t shared = needed > own ? needed - own : 0;
+    uint32_t size = (uint32_t)__builtin_popcount(new);
+    return 2 * (size - shared) > size;
+}
+
+static bool may_follow(const uint8_t *table, uint32_t old, uint32_t new)
+{
+    return word(table, RULE) == RULE_1 ? __builtin_popcount(new ^ old) == 1 : !majorities_part(old, new);
+}
+
+/* The next higher number that has bits of the set alone; 0 behind the set itself. */
+static uint32_t next_subset(uint32_t subset, uint32_t set)
+{
+    return (subset - set) & set;
+}
+
+uint64_t plain_pair(const uint8_t *table, const struct action *action)
+{
+    uint32_t old = word(table + row_start(action->i), SET);
+    uint32_t of_old = next_subset(0, old);
+    while (!reaches_majority(of_old, old) || !reaches_majority(action->set & ~of_old, action->set)) {
+        of_old = next_subset(of_old, old);
+    }
+    uint32_t left = action->set & ~of_old;
+    uint32_t of_new = next_subset(0, left);
+    while (!reaches_majority(of_new, action->set)) {
+        of_new = next_subset(of_new, left);
+    }
+    return (uint64_t)of_old << OLD_SHIFT | (uint64_t)of_new << NEW_SHIFT;
+}
+
 static uint32_t judge_reconfigure(const uint8_t *table, const struct action *action)
 {
     const uint8_t *primary = table + row_start(action->i);
@@ -141,8 +177,8 @@ static uint32_t judge_reconfigure(const uint8_t *table, const struct action *act
     if ((action->set & only(action->i)) == 0) {
         return LEAVES_OUT_ITSELF;
     }
-    if (__builtin_popcount(action->set ^ set) != 1) {
-        return NOT_ONE_SERVER;
+    if (!may_follow(table, set, action->set)) {
+        return NO_SUCH_CHANGE;
     }
     if (!reaches_majority(with_configuration_of(table, primary), set)) {
         return Q1_FAILS;

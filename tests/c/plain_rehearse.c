@@ -13,11 +13,13 @@ static void print_replies(uint8_t *table, const uint8_t *actions, size_t actions
 {
     size_t count = actions_len / ACTION_BYTES;
     for (size_t piece = 0; piece < count; piece++) {
-        uint32_t reply = plain_play(table, actions + ACTION_BYTES * piece);
+        uint64_t reply = plain_play(table, actions + ACTION_BYTES * piece);
         if (reply == TAKEN) {
             printf("%zu taken\n", piece + 1);
+        } else if (set_in(reply, OLD_SHIFT) == 0) {
+            printf("%zu refused %u\n", piece + 1, number_of(reply));
         } else {
-            printf("%zu refused %u\n", piece + 1, reply);
+            printf("%zu refused %u %u %u\n", piece + 1, number_of(reply), set_in(reply, OLD_SHIFT), set_in(reply, NEW_SHIFT));
         }
     }
     if (actions_len % ACTION_BYTES != 0) {

@@ -20,7 +20,7 @@ enum reply {
     LOG_AHEAD = 10,
     AT_CEILING = 11,
     LEAVES_OUT_ITSELF = 12,
-    NOT_ONE_SERVER = 13,
+    NO_SUCH_CHANGE = 13,
     Q1_FAILS = 14,
     Q2_FAILS = 15,
     P1_FAILS = 16,
@@ -55,10 +55,14 @@ uint32_t plain_parse(const uint8_t *bytes, uint32_t n, struct action *action);
 /* What the table says to a parsed action: TAKEN or one of 6 to 24. */
 uint32_t plain_judge(const uint8_t *table, const struct action *action);
 
+/* What a change that rule 2 refuses shows, at its place in the reply: the lowest majorities of the old set and of the new
+ * one without a common server. */
+uint64_t plain_pair(const uint8_t *table, const struct action *action);
+
 void plain_do(uint8_t *table, const struct action *action);
 
-/* Parses, judges and, if taken, does. */
-uint32_t plain_play(uint8_t *table, const uint8_t *bytes);
+/* Parses, judges and, if taken, does; answers all of the reply. */
+uint64_t plain_play(uint8_t *table, const uint8_t *bytes);
 
 /* Why this voter will not have this candidate: one of 8 to 10, or TAKEN. */
 uint32_t plain_objection(const uint8_t *candidate, const uint8_t *voter);

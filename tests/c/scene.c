@@ -46,6 +46,11 @@ struct scene fresh_scene(const struct engine *engine, uint32_t n, uint32_t set)
     return scene;
 }
 
+void give_rule(struct scene *scene, uint32_t rule)
+{
+    put_word(scene->table, RULE, rule);
+}
+
 void give_role(struct scene *scene, uint32_t server, uint32_t role, uint32_t term)
 {
     put_word(scene->table + row_start(server), ROLE, role);
@@ -101,21 +106,23 @@ struct bytes8 ready_action(uint32_t kind)
     return ready[kind - 1];
 }
 
-static void answered(struct scene *scene, struct bytes8 action, uint32_t number, const struct scene *after,
-                     const char *name)
+void replied(struct scene *scene, struct bytes8 action, uint64_t reply, const struct scene *after, const char *name)
 {
     const struct engine *engine = scene->engine;
     uint8_t run_table[TABLE_BYTES];
     memcpy(run_table, scene->table, TABLE_BYTES);
-    uint8_t run_reply = 255;
+    uint64_t told = UINT64_MAX;
+    uint8_t run_reply[REPLY_BYTES];
+    memset(run_reply, 255, sizeof run_reply);
     struct bytes8 lent = action;
 
-    uint32_t reply = engine->step(scene->table, TABLE_BYTES, lent.byte, ACTION_BYTES);
-    check(reply == number, "%s: step replied %u, not %u", name, reply, number);
+    uint32_t answer = engine->step(scene->table, TABLE_BYTES, lent.byte, ACTION_BYTES, &told);
+    check(answer == number_of(reply), "%s: step replied %u, not %u", name, answer, number_of(reply));
+    check(told == reply, "%s: step told %#llx, not %#llx", name, (unsigned long long)told, (unsigned long long)reply);
     check(memcmp(scene->table, after->table, TABLE_BYTES) == 0, "%s: another table after step", name);
 
-    uint64_t played = engine->run(run_table, TABLE_BYTES, lent.byte, ACTION_BYTES, &run_reply, 1);
-    check(played == 1 && run_reply == number, "%s: run replied %u, not %u", name, run_reply, number);
+    uint64_t played = engine->run(run_table, TABLE_BYTES, lent.byte, ACTION_BYTES, run_reply, REPLY_BYTES);
+    check(played == 1 && reply_at(run_reply, 0) == reply, "%s: run replied another than %#llx", name, (unsigned long long)reply);
     check(memcmp(run_table, after->table, TABLE_BYTES) == 0, "%s: another table after run", name);
     check(memcmp(lent.byte, action.byte, ACTION_BYTES) == 0, "%s: the action's bytes are altered", name);
     /* So that one wrong table does not fail every later check on the scene too. */
@@ -124,11 +131,11 @@ static void answered(struct scene *scene, struct bytes8 action, uint32_t number,
 
 void taken(struct scene *scene, struct bytes8 action, const struct scene *after, const char *name)
 {
-    answered(scene, action, 0, after, name);
+    replied(scene, action, 0, after, name);
 }
 
-void refused(struct scene *scene, struct bytes8 action, uint32_t number, const char *name)
+void refused(struct scene *scene, struct bytes8 action, uint64_t reply, const char *name)
 {
     struct scene before = *scene;
-    answered(scene, action, number, &before, name);
+    replied(scene, action, reply, &before, name);
 }

@@ -28,9 +28,10 @@ int close_checks(const char *engine_name);
 
 struct bytes8 act(uint32_t kind, uint32_t i, uint32_t j, uint32_t set);
 
-/* Drawn up here and not by the engine's own fresh, which is checked against it. */
+/* Drawn up here and not by the engine's own fresh, which is checked against it; under rule 1. */
 struct scene fresh_scene(const struct engine *engine, uint32_t n, uint32_t set);
 
+void give_rule(struct scene *scene, uint32_t rule);
 void give_role(struct scene *scene, uint32_t server, uint32_t role, uint32_t term);
 void give_configuration(struct scene *scene, uint32_t server, uint32_t set, uint32_t version, uint32_t config_term);
 void give_log(struct scene *scene, uint32_t server, size_t length, const uint32_t *entries);
@@ -43,14 +44,17 @@ void give_mark(struct scene *scene, uint32_t position, uint32_t term);
 struct scene ready_scene(const struct engine *engine);
 struct bytes8 ready_action(uint32_t kind);
 
-/* Plays the action by step, and by run on a second copy; both have to give the reply and the table named. */
+/* Plays the action by step, and by run on a second copy; both have to give the reply and the table named. A reply that
+ * shows nothing is its number. */
+void replied(struct scene *scene, struct bytes8 action, uint64_t reply, const struct scene *after, const char *name);
 void taken(struct scene *scene, struct bytes8 action, const struct scene *after, const char *name);
-void refused(struct scene *scene, struct bytes8 action, uint32_t number, const char *name);
+void refused(struct scene *scene, struct bytes8 action, uint64_t reply, const char *name);
 
 void check_lines(const struct engine *engine);
 void check_ladders(const struct engine *engine);
 void check_fields(const struct engine *engine);
 void check_errors(const struct engine *engine);
+void check_rules(const struct engine *engine);
 void check_broken(const struct engine *engine);
 void check_lengths(const struct engine *engine);
 void check_images(const struct engine *engine);

@@ -31,9 +31,19 @@ size_t trial_piece_bytes(const struct trial *trial, size_t piece)
     return left < ACTION_BYTES ? left : ACTION_BYTES;
 }
 
-static uint32_t play_piece(const struct engine *engine, const struct trial *trial, size_t piece, uint8_t *table)
+/* What step tells: a number, and beside it all of the reply, which says that number, too. */
+struct told {
+    uint64_t number;
+    uint64_t reply;
+};
+
+static struct told play_piece(const struct engine *engine, const struct trial *trial, size_t piece, uint8_t *table)
 {
-    return engine->step(table, TABLE_BYTES, trial->actions + ACTION_BYTES * piece, trial_piece_bytes(trial, piece));
+    struct told told;
+    memset(&told.reply, CANARY, sizeof told.reply);
+    told.number = engine->step(table, TABLE_BYTES, trial->actions + ACTION_BYTES * piece,
+                               trial_piece_bytes(trial, piece), &told.reply);
+    return told;
 }
 
 static const char *steps_difference(const struct trial *trial, const struct engine *one, const struct engine *other,
@@ -46,21 +56,22 @@ static const char *steps_difference(const struct trial *trial, const struct engi
     for (size_t piece = 0; piece < outcome->pieces; piece++) {
         uint8_t before[TABLE_BYTES];
         memcpy(before, ones.table, TABLE_BYTES);
-        uint32_t reply = play_piece(one, trial, piece, ones.table);
-        if (play_piece(other, trial, piece, others.table) != reply) {
+        struct told told = play_piece(one, trial, piece, ones.table);
+        struct told others_told = play_piece(other, trial, piece, others.table);
+        if (memcmp(&told, &others_told, sizeof told) != 0) {
             return "replies of step";
         }
-        if (reply >= NUMBERS) {
+        if (told.number >= NUMBERS || told.number != number_of(told.reply)) {
             return "a reply of step and the numbers there are";
         }
         if (memcmp(&ones, &others, sizeof ones) != 0) {
             return "tables after step";
         }
-        if (reply != 0 && memcmp(before, ones.table, TABLE_BYTES) != 0) {
+        if (told.number != 0 && memcmp(before, ones.table, TABLE_BYTES) != 0) {
             return "tables before and after a refusal";
         }
-        outcome->replies[piece] = (uint8_t)reply;
-        if (piece < trial->room) {
+        put_reply(outcome->replies, piece, told.reply);
+        if (piece < trial->room / REPLY_BYTES) {
             memcpy(outcome->table_of_run, ones.table, TABLE_BYTES);
         }
     }
@@ -78,8 +89,9 @@ static const char *run_difference(const struct trial *trial, const struct engine
     uint8_t expected_replies[MOST_ROOM];
     memset(replies, CANARY, sizeof replies);
     memset(expected_replies, CANARY, sizeof expected_replies);
-    size_t played = outcome->pieces < trial->room ? outcome->pieces : trial->room;
-    memcpy(expected_replies, outcome->replies, played);
+    size_t room = trial->room / REPLY_BYTES;
+    size_t played = outcome->pieces < room ? outcome->pieces : room;
+    memcpy(expected_replies, outcome->replies, REPLY_BYTES * played);
 
     uint64_t answer = engine->run(table.table, TABLE_BYTES, trial->actions, trial->actions_len, replies, trial->room);
     if (answer != played) {
@@ -153,14 +165,16 @@ void trial_print(const struct trial *trial, const struct engine *one, const stru
     struct guarded_table others = guarded(trial);
     puts("table before (words of each row, to the last that is not 0):");
     print_table(ones.table);
-    printf("plan, with room for %zu replies (bytes of each action; reply by %s, by %s):\n", trial->room, one->name,
+    printf("plan, with room for %zu bytes of replies (bytes of each action; reply by %s, by %s):\n", trial->room, one->name,
            other->name);
     for (size_t piece = 0; piece < trial_pieces(trial); piece++) {
         for (size_t index = 0; index < trial_piece_bytes(trial, piece); index++) {
             printf(" %3u", trial->actions[ACTION_BYTES * piece + index]);
         }
-        uint32_t reply = play_piece(one, trial, piece, ones.table);
-        printf("   %u, %u\n", reply, play_piece(other, trial, piece, others.table));
+        struct told told = play_piece(one, trial, piece, ones.table);
+        struct told others_told = play_piece(other, trial, piece, others.table);
+        printf("   %llu (%016llx), %llu (%016llx)\n", (unsigned long long)told.number, (unsigned long long)told.reply,
+               (unsigned long long)others_told.number, (unsigned long long)others_told.reply);
     }
     printf("table after the steps by %s:\n", one->name);
     print_table(ones.table);

@@ -8,19 +8,20 @@
 #include "engines.h"
 #include "layout.h"
 
-enum { MOST_PIECES = 1200, MOST_ROOM = MOST_PIECES + 8, NUMBERS = 25 };
+enum { MOST_PIECES = 1200, MOST_ROOM = REPLY_BYTES * (MOST_PIECES + 8), NUMBERS = 25 };
 
 struct trial {
     uint8_t start[TABLE_BYTES];
     uint8_t actions[ACTION_BYTES * MOST_PIECES];
     size_t actions_len;
+    /* The bytes for a run's replies. */
     size_t room;
 };
 
 struct outcome {
-    uint8_t replies[MOST_PIECES];
+    uint8_t replies[REPLY_BYTES * MOST_PIECES];
     size_t pieces;
-    /* As it stood when the room for a run's replies was used up, or else at the end. */
+    /* As it stood when a run's room for replies was used up, or else at the end. */
     uint8_t table_of_run[TABLE_BYTES];
 };
 

@@ -1,5 +1,5 @@
--- Demand 3, of every run from a fresh table, and what is proved beside it. Nothing is asked of n, M and the plan: n and M are any numbers,
--- every n from 1 to 16 and every set within n among them, and a plan is any list of numbers. Assumes nothing.
+-- Demand 3, of every run from a fresh table, and what is proved beside it. Nothing is asked of n, M, R and the plan: n, M and R are any
+-- numbers, every n from 1 to 16, every set within n and both rules among them, and a plan is any list of numbers. Assumes nothing.
 use Prim.Native.Nat.{ℕ, zero, suc, _≤_, _<_}
 use mathlib.Core.List.{List, [], _∷_}
 use mathlib.Core.Logic.{_≢_}
@@ -9,7 +9,7 @@ use lib.Dec.{T}
 use lib.ListN.{getD}
 use mir.Facts.{eqb-yes}
 use Rattle.algorithm.specs.Table.{Table, server, primary, termAt, mark, fresh, held}
-use Rattle.algorithm.specs.Run.{step, pieces, play, runTo, wonBy, wonAlong, Rising}
+use Rattle.algorithm.specs.Run.{numbers, step, pieces, play, runTo, wonBy, wonAlong, Rising}
 use Rattle.algorithm.proofs.Logless as logless
 use Rattle.algorithm.proofs.Logless.{core, Moves, none, then}
 use Rattle.algorithm.proofs.Logs.{HasEntry}
@@ -35,7 +35,7 @@ logless-play t (a ∷ p) = then (logless-step t a) (logless-play (step t a .tabl
 safe-step : (t : Table) (a : List ℕ) → Safe (view t) → Safe (view (step t a .table))
 safe-step t a = safe-moves (moves t a)
 
-never-given : (t : Table) → Safe (view t) → (p : List (List ℕ)) (k : ℕ) → getD (play t p .replies) k 0 ≢ 24
+never-given : (t : Table) → Safe (view t) → (p : List (List ℕ)) (k : ℕ) → getD (numbers (play t p .replies)) k 0 ≢ 24
 unfolding play
 never-given t safe [] k z = omega arith
 never-given t safe (a ∷ p) zero z = step-not-24 t safe a z
@@ -44,20 +44,24 @@ never-given t safe (a ∷ p) (suc k) z = never-given (step t a .table) (safe-ste
 -- ---- actions one after another, from a fresh table
 
 -- After any list of actions, each of which is any list of numbers, short, long or unknown ones among them.
-module _ (n M : ℕ) (plan : List (List ℕ)) where
+module _ (n M R : ℕ) (plan : List (List ℕ)) where
   abbrev pub left : Table
-  left = play (fresh n M) plan .table
+  left = play (fresh n M R) plan .table
 
   -- the terms won rise, so that no term is won by two elections
-  pub won-rise : Rising 0 (wonAlong (fresh n M) plan)
-  won-rise = wins-rise (core-fresh n M) (logless-play (fresh n M) plan)
+  pub won-rise : Rising 0 (wonAlong (fresh n M R) plan)
+  won-rise = wins-rise (core-fresh n M R) (logless-play (fresh n M R) plan)
 
   -- refusal 24 is never given
-  pub not-given-24 : (j : ℕ) → getD (play (fresh n M) plan .replies) j 0 ≢ 24
-  not-given-24 = never-given (fresh n M) (safe-fresh n M) plan
+  pub not-given-24 : (j : ℕ) → getD (numbers (play (fresh n M R) plan .replies)) j 0 ≢ 24
+  not-given-24 = never-given (fresh n M R) (safe-fresh n M R) plan
 
   safe : Safe (view left)
-  safe = play-keeps (λ t. Safe (view t)) safe-step (fresh n M) plan (safe-fresh n M)
+  safe = play-keeps (λ t. Safe (view t)) safe-step (fresh n M R) plan (safe-fresh n M R)
+
+  -- nor to an action that follows
+  pub next-not-24 : (a : List ℕ) → step left a .number ≢ 24
+  next-not-24 = step-not-24 left safe
 
   leads : (i : ℕ) → T (primary (server left i)) → Leads (core left) i (server left i .config)
   leads i p = record { primary = eqb-yes p; is = refl }
@@ -89,27 +93,27 @@ module _ (n M : ℕ) (plan : List (List ℕ)) where
 -- ---- runs from a fresh table
 
 -- After the first k actions of a plan. The whole plan has `pieceCount plan` of them; beyond it actions are empty, and refused.
-module _ (n M : ℕ) (plan : List ℕ) (k : ℕ) where
+module _ (n M R : ℕ) (plan : List ℕ) (k : ℕ) where
   abbrev pub end : Table
-  end = runTo k (fresh n M) plan .table
+  end = runTo k (fresh n M R) plan .table
 
-  pub terms-rise : Rising 0 (wonAlong (fresh n M) (pieces k plan))
-  terms-rise = won-rise n M (pieces k plan)
+  pub terms-rise : Rising 0 (wonAlong (fresh n M R) (pieces k plan))
+  terms-rise = won-rise n M R (pieces k plan)
 
-  pub never-24 : (j : ℕ) → getD (runTo k (fresh n M) plan .replies) j 0 ≢ 24
-  never-24 = not-given-24 n M (pieces k plan)
+  pub never-24 : (j : ℕ) → getD (numbers (runTo k (fresh n M R) plan .replies)) j 0 ≢ 24
+  never-24 = not-given-24 n M R (pieces k plan)
 
   pub own-term : (i : ℕ) → T (primary (server end i)) → server end i .config .term ≡ server end i .term
-  own-term = primary-own-term n M (pieces k plan)
+  own-term = primary-own-term n M R (pieces k plan)
 
   pub primaries-complete : (i p : ℕ) → T (primary (server end i)) → 0 < mark end p → mark end p ≤ server end i .term
       → T (held (server end i .log) p (mark end p))
-  primaries-complete = primary-complete n M (pieces k plan)
+  primaries-complete = primary-complete n M R (pieces k plan)
 
   pub one-primary : (i j : ℕ) → T (primary (server end i)) → T (primary (server end j))
       → server end i .term ≡ server end j .term → i ≡ j
-  one-primary = sole-primary n M (pieces k plan)
+  one-primary = sole-primary n M R (pieces k plan)
 
   pub logs-match : (i j p u : ℕ) → T (held (server end i .log) p u) → T (held (server end j .log) p u)
       → (r : ℕ) → r ≤ p → termAt (server end i .log) r ≡ termAt (server end j .log) r
-  logs-match = logs-agree n M (pieces k plan)
+  logs-match = logs-agree n M R (pieces k plan)

@@ -6,7 +6,8 @@ use mathlib.Core.Logic.{_≢_, _⊎_, inl, inr, ⊎-elim}
 use mathlib.Core.Path.{_≡_, refl, sym, _∙_, subst}
 use native.Mathlib.Decide.{decLe, decLt}
 use native.Mathlib.Omega.{arith}
-use Rattle.members.proofs.Said.{All, Some, Most, Hits, MajoritiesMeet}
+use Rattle.members.specs.Rules.{MajoritiesMeet}
+use Rattle.members.proofs.Said.{All, Some, Most, Hits}
 use Rattle.members.proofs.Majorities.{same-set, all-or-some, meet-sym, most-hits, hits-map}
 use Rattle.algorithm.specs.Table.{Config, Server}
 use Rattle.algorithm.proofs.Logless.{State}

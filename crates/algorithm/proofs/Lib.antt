@@ -2,6 +2,7 @@
 pub mod Answers
 pub mod Worked
 pub mod Refused
+pub mod Replies
 pub mod Logless
 pub mod Orders
 pub mod Logs

@@ -7,7 +7,8 @@ use mathlib.Core.Logic.{_⊎_}
 use mathlib.Core.Path.{_≡_}
 use lib.Dec.{T}
 use Rattle.members.specs.Members.{member, Member, Majority}
-use Rattle.members.proofs.Said.{MajoritiesMeet, All, Most}
+use Rattle.members.specs.Rules.{MajoritiesMeet}
+use Rattle.members.proofs.Said.{All, Most}
 use Rattle.words.specs.Lists.{put}
 use Rattle.algorithm.specs.Table.{Server, Table, absent, server, withConfig, withLog, freshServer, newer}
 use Rattle.algorithm.specs.Actions.{steppedDown, winner, nextConfig}

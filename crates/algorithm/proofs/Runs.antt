@@ -1,4 +1,4 @@
--- What holds of runs because it holds of steps; runs joined; marks stay. Assumes nothing.
+-- What holds of runs because it holds of steps; runs joined; marks stay, and the rule does. Assumes nothing.
 use Prim.Native.Nat.{ℕ, zero, suc, _+_, _*_, _<_}
 use mathlib.Core.Bool.{false}
 use mathlib.Core.List.{List, [], _∷_, _++_, append-assoc}
@@ -10,9 +10,9 @@ use lib.Dec.{eqb}
 use lib.ListN.{length, take, drop, length-append, length-drop}
 use lib.Seq.{take-append-le, drop-append-le, drop-drop}
 use Rattle.words.proofs.Tests.{Fails, fails-false, false-fails, neither, one-refuted, equal, unequal}
-use Rattle.algorithm.specs.Table.{Table, broken, server, mark}
+use Rattle.algorithm.specs.Table.{Server, Table, broken, server, mark, withServers, withMarks}
 use Rattle.algorithm.specs.Actions.{Action, unknown, elect, reconfigure, send, spread, write, fetch, rollBack, commit, actionOf}
-use Rattle.algorithm.specs.Run.{after, step, pieces, pieceCount, Ran, play, runTo, run, wonBy, wonAlong}
+use Rattle.algorithm.specs.Run.{after, answered, step, pieces, pieceCount, Ran, play, runTo, run, wonBy, wonAlong}
 use Rattle.words.proofs.Choice.{put-elim}
 use Rattle.words.proofs.Lists.{nth-replace}
 use Rattle.algorithm.proofs.Refused.{Taken, outcome}
@@ -42,7 +42,7 @@ pub play-append : (t : Table) (p q : List (List ℕ)) → play t (p ++ q) ≡ jo
 unfolding play
 play-append t [] q = refl
 play-append t (a ∷ p) q =
-    ap (λ (r : Ran). record { replies = step t a .number ∷ r .replies; table = r .table }) (play-append (step t a .table) p q)
+    ap (λ (r : Ran). record { replies = answered (step t a) ∷ r .replies; table = r .table }) (play-append (step t a .table) p q)
 
 -- and the terms won are those of both
 pub won-append : (t : Table) (p q : List (List ℕ)) → wonAlong t (p ++ q) ≡ wonAlong t p ++ wonAlong (play t p .table) q
@@ -80,7 +80,7 @@ pieces-next (suc k) p =
 
 -- the run r, and one step more
 abbrev pub stepped : Ran → List ℕ → Ran
-stepped r a = joined r (record { replies = step (r .table) a .number ∷ []; table = step (r .table) a .table })
+stepped r a = joined r (record { replies = answered (step (r .table) a) ∷ []; table = step (r .table) a .table })
 
 -- the run of one piece more
 pub run-next : (k : ℕ) (t : Table) (p : List ℕ) → runTo (k + 1) t p ≡ stepped (runTo k t p) (take 8 (drop (8 * k) p))
@@ -136,3 +136,33 @@ mark-step t a p o =
 pub marks-stay : (t : Table) (plan : List ℕ) (p : ℕ) → 0 < mark t p → mark (run t plan .table) p ≡ mark t p
 marks-stay t plan p o =
     play-keeps (λ s. mark s p ≡ mark t p) (λ s a e. mark-step s a p (omega arith) ∙ e) t (pieces (pieceCount plan) plan) refl
+
+-- ---- the rule
+
+-- what neither other servers nor other marks alter, no action alters
+module _ {A : Type 0} (f : Table → A) (servers : (ss : List Server) (t : Table) → f (withServers ss t) ≡ f t) (marks : (ms : List ℕ) (t : Table) → f (withMarks ms t) ≡ f t) where
+  after-stays : (t : Table) (a : Action) → f (after t a) ≡ f t
+  unfolding after
+  after-stays t unknown = refl
+  after-stays t (elect i q) = servers _ t
+  after-stays t (reconfigure i m) = servers _ t
+  after-stays t (send i j) = servers _ t
+  after-stays t (spread i j) = servers _ t
+  after-stays t (write i) = servers _ t
+  after-stays t (fetch i j) = servers _ t
+  after-stays t (rollBack i j) = servers _ t
+  after-stays t (commit i q) = marks _ t
+
+  step-stays : (t : Table) (a : List ℕ) → f (step t a .table) ≡ f t
+  step-stays t a = ⊎-elim (λ d. rw (d .table) (after-stays t (actionOf a))) (λ r. rw (r .table)) (outcome t a)
+
+  play-stays : (t : Table) (p : List (List ℕ)) → f (play t p .table) ≡ f t
+  play-stays t p = play-keeps (λ s. f s ≡ f t) (λ s a e. step-stays s a ∙ e) t p refl
+
+-- a step keeps the rule of its table, whatever table that is
+pub step-rule : (t : Table) (a : List ℕ) → step t a .table .rule ≡ t .rule
+step-rule = step-stays (λ t. t .rule) (λ ss t. refl) (λ ms t. refl)
+
+-- and so do actions one after another, and with them every run
+pub play-rule : (t : Table) (p : List (List ℕ)) → play t p .table .rule ≡ t .rule
+play-rule = play-stays (λ t. t .rule) (λ ss t. refl) (λ ms t. refl)

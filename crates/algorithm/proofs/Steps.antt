@@ -6,7 +6,8 @@ use mathlib.Core.Path.{_≡_, refl, sym, ap, _∙_}
 use native.Mathlib.Omega.{arith}
 use lib.Dec.{T, T-not}
 use Rattle.members.specs.Members.{member, Member}
-use Rattle.members.proofs.Said.{MajoritiesMeet, All}
+use Rattle.members.specs.Rules.{MajoritiesMeet}
+use Rattle.members.proofs.Said.{All}
 use Rattle.members.proofs.Majorities.{most-and-hits}
 use Rattle.algorithm.specs.Table.{Config, Server, withConfig, newer}
 use Rattle.algorithm.specs.Actions.{steppedDown, winner, nextConfig}

@@ -11,7 +11,7 @@ use lib.Dec.{ltb, eqb}
 use lib.ListN.{length, getD, take, List·getD-eq-default}
 use Rattle.members.specs.Members.{member, within, majority}
 use Rattle.words.proofs.Tests.{Passes, both, together, either, neither, refuted, contradiction, both-refuted, equal, unequal, less, not-less, at-most, is-equal, is-at-most}
-use Rattle.members.proofs.Majorities.{majority-is, one-apart, most-map, all-pass, none-passes, most-pass}
+use Rattle.members.proofs.Majorities.{majority-is, may-follow, most-map, all-pass, none-passes, most-pass}
 use Rattle.words.specs.Lists.{nth, put}
 use Rattle.words.specs.Refusal.{refuse}
 use Rattle.algorithm.specs.Table.{Log, Server, Table, count, server, primary, entry, entryAt, mark, withConfig, withEntry, withLog, positions, newer, last, held, prefix}
@@ -145,7 +145,7 @@ module _ (t : Table) (i m : ℕ) (k : Taken t (reconfigure i m)) where
         record {
           primary = leads;
           self = in-set .yes;
-          meet = one-apart (refuted (k .own 13));
+          meet = may-follow (t .rule) (refuted (k .own 13));
           Q1 = most-map (λ s u. let (version, term) = both u in (equal version, equal term)) (most-pass (count t) (a .config .set) width _ (refuted (k .own 14)));
           Q2 = most-map (λ s u. equal u) (most-pass (count t) (a .config .set) width _ (refuted (k .own 15)));
         },

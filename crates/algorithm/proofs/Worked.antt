@@ -1,15 +1,20 @@
 -- Every worked case gives what it must, by computation. Assumes nothing.
-use mathlib.Core.List.{map}
+use mathlib.Core.List.{map, flatten}
 use mathlib.Core.Path.{_≡_, refl}
 use lib.Count.{ones}
-use Rattle.members.specs.Members.{mask}
+use Rattle.members.specs.Members.{mask, lowestFrom}
+use Rattle.members.specs.Rules.{oldApart, newApart}
 use Rattle.words.specs.Lists.{nth, replace, every}
 use Rattle.algorithm.specs.Table.{broken, prefix}
-use Rattle.algorithm.specs.Actions.{votersFrom}
-use Rattle.algorithm.specs.Run.{refusals, after, step, pieces, play}
-use Rattle.words.specs.Refusal.{first}
-use Rattle.algorithm.specs.Cases.{cases}
+use Rattle.algorithm.specs.Actions.{votersFrom, someMarked, holdsMarked}
+use Rattle.algorithm.specs.Run.{repliesBytes, refusals, after, step, pieces, play}
+use Rattle.words.specs.Refusal.{first, firstShown}
+use Rattle.algorithm.specs.Cases.{cases, changes}
 
 pub cases-hold : map (λ k. k .gives) cases ≡ map (λ k. k .expected) cases
 unfolding cases ones mask nth replace every broken prefix votersFrom refusals first after step pieces play
 cases-hold = refl
+
+pub changes-hold : map (λ k. k .gives) changes ≡ map (λ k. k .expected) changes
+unfolding changes ones mask oldApart newApart lowestFrom nth replace every broken someMarked holdsMarked refusals first firstShown after step pieces play repliesBytes flatten
+changes-hold = refl

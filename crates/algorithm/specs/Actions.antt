@@ -6,8 +6,9 @@ use mathlib.Core.List.{List, [], _∷_, _++_}
 use lib.Dec.{leb, ltb, eqb}
 use lib.ListN.{length, getD}
 use Rattle.words.specs.Words.{pairOf}
-use Rattle.words.specs.Refusal.{Refusal, refuse}
-use Rattle.members.specs.Members.{member, oneApart, majority, allPass, somePass, mostPass}
+use Rattle.words.specs.Refusal.{Shown, nothing, Refusal, refuse, refuseShowing}
+use Rattle.members.specs.Members.{member, majority, allPass, somePass, mostPass}
+use Rattle.members.specs.Rules.{mayFollow, oldApart, newApart}
 use Rattle.algorithm.specs.Table.{Config, configOf, entry, Log, Server, Table, count, server, primary, secondary, entryAt, termAt, mark, withServers, withServer, changed, withMark, withRole, withTerm, withConfig, withEntry, withoutLast, ceiling, positions, newer, last, ahead, held, prefix}
 
 -- ---- the bytes by their places: 0 the kind, 1 and 2 servers i and j, 4 and 5 the set; 3, 6 and 7 are 0
@@ -153,6 +154,15 @@ q2 t i = mostPass (count t) (sameTerm t i) (server t i .config .set)
 abbrev pub p1 : Table → ℕ → Bool
 p1 t i = someMarked (t .marks) (server t i .term) && mostPass (count t) (holdsCommitted t i) (server t i .config .set)
 
+-- what is shown of two majorities, one of the old set and one of the new
+abbrev pub twoSets : ℕ → ℕ → Shown
+twoSets old new = record { server = 0; copied = 0; old = old; new = new }
+
+-- what is shown where a set may not follow another: under rule 1 nothing, under rule 2 the lowest pair of majorities apart
+abbrev pub apartShown : ℕ → ℕ → ℕ → Shown
+apartShown zero old new = nothing
+apartShown (suc k) old new = twoSets (oldApart old new) (newApart old new)
+
 -- 6 and 11 to 13: the leader and its new set
 abbrev pub newSetRefusals : Table → ℕ → ℕ → List Refusal
 newSetRefusals t i M =
@@ -160,7 +170,7 @@ newSetRefusals t i M =
     refuse 6 (not (primary a))
     ∷ refuse 11 (eqb (a .config .version) ceiling)
     ∷ refuse 12 (not (member i M))
-    ∷ refuse 13 (not (oneApart (a .config .set) M))
+    ∷ refuseShowing 13 (not (mayFollow (t .rule) (a .config .set) M)) (apartShown (t .rule) (a .config .set) M)
     ∷ []
 
 -- 14 and 15: Q1 and Q2

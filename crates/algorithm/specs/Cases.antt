@@ -1,12 +1,13 @@
--- The worked cases of document 01 that are marked to be proved, in its order, each with what it must give. Assumes nothing.
+-- The worked cases of document 01 that are marked to be proved, in its order, each with what it must give, under rule 1; and those of document
+-- 02 on the two rules. Assumes nothing.
 use Prim.Native.Nat.{ℕ}
 use mathlib.Core.List.{List, [], _∷_, _++_}
-use lib.ListN.{length}
+use lib.ListN.{length, replicate}
 use Rattle.members.specs.Members.{one}
-use Rattle.algorithm.specs.Table.{configOf, entries, Table, server, withServer, withLog, freshServer, fresh, newer, ahead}
+use Rattle.algorithm.specs.Table.{configOf, entries, Server, Table, server, withServers, withServer, withMark, withRole, withTerm, withConfig, withLog, freshServer, fresh, newer, ahead}
 use Rattle.words.specs.Words.{half}
 use Rattle.algorithm.specs.Actions.{winner}
-use Rattle.algorithm.specs.Run.{run}
+use Rattle.algorithm.specs.Run.{numbers, repliesBytes, run}
 
 infix 20 _gives_
 -- what a case gives, and what it must give: replies (0 for taken), truth values as 0 and 1, lengths
@@ -22,18 +23,18 @@ g gives e = record { gives = g; expected = e }
 abbrev pub actionBytes : ℕ → ℕ → ℕ → ℕ → List ℕ
 actionBytes kind i j m = kind ∷ i ∷ j ∷ 0 ∷ (half m ++ (0 ∷ 0 ∷ []))
 
--- a plan's replies
+-- the numbers of a plan's replies
 abbrev pub replies : Table → List ℕ → List ℕ
-replies t p = run t p .replies
+replies t p = numbers (run t p .replies)
 
 -- two secondaries with these logs
 abbrev pub two : List ℕ → List ℕ → Table
 two l m =
-    withServer (withServer (fresh 2 3) 1 (withLog (entries l) (freshServer 3))) 2 (withLog (entries m) (freshServer 3))
+    withServer (withServer (fresh 2 3 0) 1 (withLog (entries l) (freshServer 3))) 2 (withLog (entries m) (freshServer 3))
 
 -- one server, primary of term 1
 abbrev pub alone : Table
-alone = withServer (fresh 1 1) 1 (winner 1 (freshServer 1))
+alone = withServer (fresh 1 1 0) 1 (winner 1 (freshServer 1))
 
 -- roll back 1 against 2, twice
 abbrev pub backTwice : List ℕ
@@ -42,9 +43,9 @@ backTwice = actionBytes 7 1 2 0 ++ actionBytes 7 1 2 0
 -- the cases, a line each, and a second one for the log that rolls back to empty
 unfoldable pub cases : List Case
 cases =
-    (replies (fresh 1 1) (actionBytes 1 1 0 1) gives 0 ∷ [])
-    ∷ (replies (fresh 4 15) (actionBytes 1 1 0 3) gives 7 ∷ [])
-    ∷ (replies (fresh 4 15) (actionBytes 1 1 0 7) gives 0 ∷ [])
+    (replies (fresh 1 1 0) (actionBytes 1 1 0 1) gives 0 ∷ [])
+    ∷ (replies (fresh 4 15 0) (actionBytes 1 1 0 3) gives 7 ∷ [])
+    ∷ (replies (fresh 4 15 0) (actionBytes 1 1 0 7) gives 0 ∷ [])
     ∷ (one (newer (configOf 1 1 2) (configOf 1 9 1)) ∷ [] gives 1 ∷ [])
     ∷ (one (ahead (entries (2 ∷ [])) (entries (1 ∷ 1 ∷ 1 ∷ []))) ∷ [] gives 1 ∷ [])
     ∷ (one (ahead (entries (1 ∷ 1 ∷ [])) (entries (1 ∷ []))) ∷ [] gives 1 ∷ [])
@@ -55,5 +56,40 @@ cases =
     ∷ (replies (two (1 ∷ []) (1 ∷ 2 ∷ [])) (actionBytes 7 1 2 0) gives 21 ∷ [])
     ∷ (replies alone (actionBytes 3 1 1 0) gives 6 ∷ [])
     ∷ (replies alone (actionBytes 4 1 1 0) gives 18 ∷ [])
-    ∷ (replies (fresh 4 15) (actionBytes 8 1 0 3) gives 6 ∷ [])
+    ∷ (replies (fresh 4 15 0) (actionBytes 8 1 0 3) gives 6 ∷ [])
+    ∷ []
+
+-- ---- which set may follow which (document 02, request (i))
+
+-- a server of term 1 with the set M and one entry
+abbrev pub following : ℕ → Server
+following M = withLog (entries (1 ∷ [])) (withTerm 1 (withConfig (configOf M 1 1) (freshServer M)))
+
+-- five such servers under the rule R; server 1 leads, and the entry is committed
+abbrev pub led : ℕ → ℕ → Table
+led R M =
+    withMark (withServer (withServers (replicate 5 (following M)) (fresh 5 M R)) 1 (withRole 1 (following M))) 1 1
+
+-- the eight bytes of the reply where server 1 changes its set from M to N under the rule R
+abbrev pub change : ℕ → ℕ → ℕ → List ℕ
+change R M N = repliesBytes (run (led R M) (actionBytes 2 1 0 N) .replies)
+
+-- taken
+abbrev pub allowed : List ℕ
+allowed = replicate 8 0
+
+-- refused, and the two majorities that are shown
+abbrev pub notAllowed : ℕ → ℕ → List ℕ
+notAllowed q r = 13 ∷ 0 ∷ 0 ∷ 0 ∷ (half q ++ half r)
+
+-- {1,2,3,4} to {1,2,3,5}, {1,2,3} to {1,2,4} and the unchanged set, under rule 2 and under rule 1; the unchanged set's version grows
+unfoldable pub changes : List Case
+changes =
+    (change 1 15 23 gives allowed)
+    ∷ (change 1 7 11 gives notAllowed 5 10)
+    ∷ (change 1 7 7 gives allowed)
+    ∷ (change 0 15 23 gives notAllowed 0 0)
+    ∷ (change 0 7 11 gives notAllowed 0 0)
+    ∷ (change 0 7 7 gives notAllowed 0 0)
+    ∷ (server (run (led 1 7) (actionBytes 2 1 0 7) .table) 1 .config .version ∷ [] gives 2 ∷ [])
     ∷ []

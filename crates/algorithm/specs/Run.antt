@@ -1,26 +1,48 @@
 -- The refusals of an action, the reply to it, a run of actions, and the words of demand 3. The enum `Reply` stands in src/lib.rt. Assumes nothing.
 use Prim.Native.Nat.{ℕ, zero, suc, _+_, _/_, _<_}
-use mathlib.Core.Bool.{Bool, not, _||_, _&&_}
-use mathlib.Core.List.{List, [], _∷_, _++_}
+use mathlib.Core.Bool.{Bool, cond, not, _||_, _&&_}
+use mathlib.Core.List.{List, [], _∷_, _++_, map, flatten}
 use lib.Dec.{eqb}
 use lib.ListN.{length, take, drop}
 use Rattle.words.specs.Lists.{between}
-use Rattle.words.specs.Refusal.{Refusal, refuse, first, unlessRefused}
+use Rattle.words.specs.Words.{half, halfAt}
+use Rattle.words.specs.Refusal.{Shown, nothing, Refusal, refuse, Answer, answer, given, unlessRefused}
 use Rattle.members.specs.Members.{within}
 use Rattle.algorithm.specs.declared.Reply.{Reply}
-use Rattle.algorithm.specs.declared.Reply.the-variants.{Taken, Refused}
+use Rattle.algorithm.specs.declared.Reply.the-variants.{Taken, Refused, Apart}
 use Rattle.algorithm.specs.Table.{Table, count, broken, server}
-use Rattle.algorithm.specs.Actions.{byte, kindOf, iOf, jOf, setOf, usesSet, usesJ, Action, unknown, elect, reconfigure, send, spread, write, fetch, rollBack, commit, actionOf, electRefusals, reconfigureRefusals, sendRefusals, spreadRefusals, writeRefusals, fetchRefusals, rollBackRefusals, commitRefusals, electAfter, reconfigureAfter, sendAfter, spreadAfter, writeAfter, fetchAfter, rollBackAfter, commitAfter}
+use Rattle.algorithm.specs.Actions.{twoSets, byte, kindOf, iOf, jOf, setOf, usesSet, usesJ, Action, unknown, elect, reconfigure, send, spread, write, fetch, rollBack, commit, actionOf, electRefusals, reconfigureRefusals, sendRefusals, spreadRefusals, writeRefusals, fetchRefusals, rollBackRefusals, commitRefusals, electAfter, reconfigureAfter, sendAfter, spreadAfter, writeAfter, fetchAfter, rollBackAfter, commitAfter}
 
--- the number of a reply: 0 for taken, and a refusal's own
-abbrev pub numberOf : Reply → ℕ
-numberOf Taken = 0
-numberOf (Refused k) = k
+-- ---- replies
 
--- the reply that has a number
-abbrev pub replyOf : ℕ → Reply
-replyOf zero = Taken
-replyOf (suc k) = Refused (suc k)
+-- the number of a reply, and what it shows
+abbrev pub answerOf : Reply → Answer
+answerOf Taken = answer 0 nothing
+answerOf (Refused k) = answer k nothing
+answerOf (Apart old new) = answer 13 (twoSets old new)
+
+-- the reply that gives an answer: the majorities, where some are shown, and else the number alone
+abbrev pub replyOf : Answer → Reply
+replyOf a =
+    unlessRefused (a .number) Taken (cond (eqb (a .shown .old) 0) (Refused (a .number)) (Apart (a .shown .old) (a .shown .new)))
+
+-- an answer in eight bytes: the number, the server, how many entries were copied, 0, and the two majorities
+abbrev pub replyBytes : Answer → List ℕ
+replyBytes a = a .number ∷ a .shown .server ∷ a .shown .copied ∷ 0 ∷ (half (a .shown .old) ++ half (a .shown .new))
+
+-- the answer that eight bytes are
+abbrev pub answerIn : List ℕ → Answer
+answerIn bs = answer (byte bs 0) (record { server = byte bs 1; copied = byte bs 2; old = halfAt bs 4; new = halfAt bs 6 })
+
+-- the bytes of answers, one behind another
+unfoldable pub repliesBytes : List Answer → List ℕ
+repliesBytes rs = flatten (map replyBytes rs)
+
+-- their numbers
+abbrev pub numbers : List Answer → List ℕ
+numbers rs = map (λ a. a .number) rs
+
+-- ---- refusals
 
 -- a field is not 0
 abbrev pub stray : ℕ → Bool
@@ -84,21 +106,32 @@ after t (fetch i j) = fetchAfter t i j
 after t (rollBack i j) = rollBackAfter t i j
 after t (commit i Q) = commitAfter t i Q
 
--- the reply's number, 0 for taken, and the table afterwards
+-- ---- steps and runs
+
+-- the reply's number, 0 for taken, what it shows, and the table afterwards
 pub record Outcome : Type 0 where
   pub number : ℕ
+  pub shown : Shown
   pub table : Table
+
+-- the answer alone
+abbrev pub answered : Outcome → Answer
+answered o = answer (o .number) (o .shown)
 
 -- the action that the bytes name is taken if no refusal holds; otherwise the reply is the first that does, and the table stays
 unfoldable pub step : Table → List ℕ → Outcome
 step t bs =
-    let k = first (refusals t bs) in
-    record { number = k; table = unlessRefused k (after t (actionOf bs)) t }
+    let a = given (refusals t bs) in
+    record { number = a .number; shown = a .shown; table = unlessRefused (a .number) (after t (actionOf bs)) t }
 
 -- the first k pieces of 8 bytes; one that the end cuts is shorter, and beyond the end they are empty: neither is ever taken
 unfoldable pub pieces : ℕ → List ℕ → List (List ℕ)
 pieces zero p = []
 pieces (suc k) p = take 8 p ∷ pieces k (drop 8 p)
+
+-- the answers that the first k pieces are
+abbrev pub answersIn : ℕ → List ℕ → List Answer
+answersIn k p = map answerIn (pieces k p)
 
 -- how many pieces the bytes make, a cut last one included
 abbrev pub pieceCount : List ℕ → ℕ
@@ -106,7 +139,7 @@ pieceCount p = (length p + 7) / 8
 
 -- the replies in order, and the last table
 pub record Ran : Type 0 where
-  pub replies : List ℕ
+  pub replies : List Answer
   pub table : Table
 
 -- actions one after another, each on the table that the one before left
@@ -115,7 +148,7 @@ play t [] = record { replies = []; table = t }
 play t (bs ∷ rest) =
     let o = step t bs in
     let r = play (o .table) rest in
-    record { replies = o .number ∷ r .replies; table = r .table }
+    record { replies = answered o ∷ r .replies; table = r .table }
 
 -- the run of the first k pieces of a plan, which is any list of bytes
 abbrev pub runTo : ℕ → Table → List ℕ → Ran

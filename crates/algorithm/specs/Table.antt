@@ -42,10 +42,11 @@ pub record Server : Type 0 where
   pub config : Config
   pub log : Log
 
--- the servers in the order of their numbers, and a mark a position: the term that was committed there, or 0
+-- the servers in the order of their numbers; a mark a position: the term that was committed there, or 0; and the rule: 0 for rule 1, 1 for rule 2
 pub record Table : Type 0 where
   pub servers : List Server
   pub marks : List ℕ
+  pub rule : ℕ
 
 -- n, the number of servers
 abbrev pub count : Table → ℕ
@@ -87,11 +88,11 @@ mark t p = nth (t .marks) p 0
 
 -- the table with these servers
 abbrev pub withServers : List Server → Table → Table
-withServers ss t = record { servers = ss; marks = t .marks }
+withServers ss t = record { servers = ss; marks = t .marks; rule = t .rule }
 
 -- the table with these marks
 abbrev pub withMarks : List ℕ → Table → Table
-withMarks ms t = record { servers = t .servers; marks = ms }
+withMarks ms t = record { servers = t .servers; marks = ms; rule = t .rule }
 
 -- the table with s as server i
 abbrev pub withServer : Table → ℕ → Server → Table
@@ -168,17 +169,21 @@ soundMarks ms = eqb (length ms) positions && every (λ m. leb m ceiling) ms
 abbrev pub soundCount : ℕ → Bool
 soundCount n = between 1 mostServers n
 
--- a rule is broken: the number of servers, one of them or the marks are not as above
+-- the rule: one of the two
+abbrev pub soundRule : ℕ → Bool
+soundRule R = leb R 1
+
+-- the table is broken: the number of servers, one of them, the marks or the rule are not as above
 unfoldable pub broken : Table → Bool
-broken t = not (soundCount (count t) && every (soundServer (count t)) (t .servers) && soundMarks (t .marks))
+broken t = not (soundCount (count t) && every (soundServer (count t)) (t .servers) && soundMarks (t .marks) && soundRule (t .rule))
 
 -- a server before any action, with the set M
 abbrev pub freshServer : ℕ → Server
 freshServer M = serverWith 0 0 (configOf M 1 0) []
 
--- n such servers, and no marks; where n is not 1 to 16, or M is empty or not within n, this table is broken
-abbrev pub fresh : ℕ → ℕ → Table
-fresh n M = record { servers = replicate n (freshServer M); marks = replicate positions 0 }
+-- n such servers under the rule R, and no marks; where n is not 1 to 16, M is empty or not within n, or R is above 1, this table is broken
+abbrev pub fresh : ℕ → ℕ → ℕ → Table
+fresh n M R = record { servers = replicate n (freshServer M); marks = replicate positions 0; rule = R }
 
 -- ---- marks as an image and a report give them
 

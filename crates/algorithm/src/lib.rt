@@ -1,7 +1,8 @@
 // The vocabulary of the engine: roles, three counters that cannot stand for one another, and the reply to an action.
 ghost use mathlib.Core.Path.{_≡_};
 ghost use lib.Dec.{ltb, eqb};
-ghost use Rattle.algorithm.specs.Run.{numberOf};
+ghost use Rattle.words.specs.Words.{valueOf};
+ghost use Rattle.algorithm.specs.Run.{answerOf, replyBytes};
 
 // The two roles.
 pub const SECONDARY: u32 = 0;
@@ -25,6 +26,9 @@ pub const POSITIONS: u8 = 64;
 
 // The most servers that a table has.
 pub const SERVERS: u8 = 16;
+
+// The rules by their numbers: 0 is rule 1, and this is rule 2, the last.
+pub const RULE_2: u32 = 1;
 
 // A comparison takes two counters of one kind: a version beside a term does not compile.
 pub fn term_is(a: Term, b: Term) -> bool
@@ -57,18 +61,32 @@ pub fn position_below(p: Position, q: Position) -> bool
     p.0 < q.0
 }
 
-// The reply to an action; a refusal carries its number, and nothing else.
+// The reply to an action: a refusal's number, or, for refusal 13 where it shows them, a majority of the old set and one of the new
+// without a common server.
 pub enum Reply {
     Taken,
     Refused(u8),
+    Apart(u16, u16),
 }
 
 // The reply's number: 0 for taken, or the refusal's.
 pub fn number(r: Reply) -> u8
-    ensures { λ k. ⌜ k ≡ numberOf r ⌝ }
+    ensures { λ k. ⌜ k ≡ answerOf r .number ⌝ }
 {
     match r {
         Reply::Taken => 0,
         Reply::Refused(k) => k,
+        Reply::Apart(_, _) => 13,
+    }
+}
+
+// The reply's eight bytes as one number, the low byte first.
+pub fn eight_bytes(r: Reply) -> u64
+    ensures { λ v. ⌜ v ≡ valueOf (replyBytes (answerOf r)) ⌝ }
+{
+    match r {
+        Reply::Taken => 0,
+        Reply::Refused(k) => k as u64,
+        Reply::Apart(old, new) => 13 + 4294967296 * (old as u64 + 65536 * (new as u64)),
     }
 }

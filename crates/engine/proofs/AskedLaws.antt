@@ -1,20 +1,21 @@
 -- What is asked, by its kind: what the refusals that do not hold leave to the function that does it. Assumes nothing.
 use Prim.Native.Nat.{ℕ, _≤_, _<_}
 use native.Mathlib.Omega.{arith}
-use mathlib.Core.Path.{_≡_}
+use mathlib.Core.Path.{_≡_, sym, subst}
 use mathlib.Core.Logic.{_≢_}
 use mathlib.Core.Bool.{true, not}
 use mathlib.Core.List.{List, [], _∷_}
-use lib.Dec.{ltb, eqb}
+use lib.Dec.{T, ltb, eqb}
 use lib.ListN.{length}
 use Rattle.words.specs.Lists.{every}
-use Rattle.words.specs.Refusal.{first}
-use Rattle.words.proofs.Tests.{Fails, together, neither, both-refuted, unequal, less, above, is-true, is-at-most, false-fails}
+use Rattle.words.specs.Refusal.{first, given}
+use Rattle.words.proofs.Tests.{Fails, both, together, neither, both-refuted, unequal, less, above, is-true, is-at-most, false-fails}
 use Rattle.words.proofs.RefusalLaws.{none-hold}
 use Rattle.members.specs.Members.{within}
+use Rattle.algorithm.specs.declared.Reply.{Reply}
 use Rattle.algorithm.specs.Table.{Log, Table, count, server, ceiling, positions, last, prefix}
 use Rattle.algorithm.specs.Actions.{joins, electRefusals, reconfigureRefusals, writeRefusals, fetchRefusals, rollBackRefusals, commitRefusals}
-use Rattle.algorithm.specs.Run.{ownRefusals, after}
+use Rattle.algorithm.specs.Run.{replyOf, ownRefusals, after}
 use Rattle.algorithm.proofs.Refused.{Fits}
 use Rattle.algorithm.proofs.Sound.{SoundServer, table-sound, here-sound}
 use Rattle.table.specs.Layout.{tableIn}
@@ -77,9 +78,22 @@ module _ (b : List ℕ) (x : Asked) (i j : ℕ) (f : Fitting b x) where
   pub commit-i : x ≡ Commit i j → Within b i
   commit-i e = (rw e at f) .0
 
+sound-at : {b : List ℕ} {i : ℕ} → Ready b → Within b i → SoundServer (count (tableIn b)) (server (tableIn b) i)
+sound-at {b} {i} h w = here-sound (table-sound (false-fails (h .sound))) i (together (is-at-most (w .some)) (is-at-most (w .known)))
+
+-- a reconfiguration has an old set and a new one that are not empty
+module _ (b : List ℕ) (x : Asked) (i m : ℕ) (h : Ready b) (f : Fitting b x) (e : x ≡ Reconfigure i m) where
+  pub old-some : 0 < server (tableIn b) i .config .set
+  old-some = less (both {a = ltb 0 (server (tableIn b) i .config .set)} (sound-at h (reconfigure-i b x i m f e) .config .set) .0)
+
+  pub new-some : 0 < m
+  new-some =
+      let fit : Fitting b (Reconfigure i m) = rw e at f in
+      less (both {a = ltb 0 m} (record { yes = subst T (sym (fit .1)) tt }) .0)
+
 -- ---- what is said of a kind is said of what is asked
 
-pub judged : (t : Table) (x y : Asked) (r : ℕ) → x ≡ y → r ≡ first (ownRefusals t (named y)) → r ≡ first (ownRefusals t (named x))
+pub judged : (t : Table) (x y : Asked) (r : Reply) → x ≡ y → r ≡ replyOf (given (ownRefusals t (named y))) → r ≡ replyOf (given (ownRefusals t (named x)))
 judged t x y r e h = rw e h
 
 pub did : (b : List ℕ) (t : Table) (x y : Asked) → x ≡ y → Holds b (after t (named y)) → Holds b (after t (named x))
@@ -95,9 +109,6 @@ not-prefix : (l m : Log) → Fails (prefix l m) → 1 ≤ length l
 unfolding prefix
 not-prefix [] m h = absurd (h .no)
 not-prefix (e ∷ l) m h = omega arith
-
-sound-at : {b : List ℕ} {i : ℕ} → Ready b → Within b i → SoundServer (count (tableIn b)) (server (tableIn b) i)
-sound-at {b} {i} h w = here-sound (table-sound (false-fails (h .sound))) i (together (is-at-most (w .some)) (is-at-most (w .known)))
 
 module _ (b : List ℕ) (x : Asked) (i j : ℕ) (h : Ready b) (f : Fitting b x) (z : first (ownRefusals (tableIn b) (named x)) ≡ 0) where
   pub elect-below : x ≡ Elect i j → server (tableIn b) i .term < ceiling

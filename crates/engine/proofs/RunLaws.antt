@@ -1,14 +1,16 @@
 -- Laws of a run: nothing played, one piece more, and all of them. Assumes nothing.
-use Prim.Native.Nat.{ℕ, suc, _+_, _-_, _*_, _≤_, _<_, min}
+use Prim.Native.Nat.{ℕ, _+_, _-_, _*_, _≤_, _<_, min}
 use mathlib.Core.Path.{_≡_, refl, sym, ap, _∙_}
-use mathlib.Core.List.{List, [], _∷_, _++_, append-assoc}
+use mathlib.Core.List.{List, [], _∷_, _++_, append-assoc, flatten}
 use native.Mathlib.Decide.{decLe}
-use native.Mathlib.Numerals.{add-one}
 use native.Mathlib.Omega.{arith}
-use lib.ListN.{length, getD, take, drop, set, length-drop, replicate, length-replicate, replicate-append-replicate}
-use lib.Seq.{take-all, drop-cons, set-at}
+use lib.ListN.{length, take, drop, length-drop, replicate, length-replicate, replicate-append-replicate}
+use lib.Seq.{take-all, take-at, drop-drop, drop-append-add}
+use Rattle.words.specs.Words.{bytes, valueOf, eight, putEight}
+use Rattle.words.specs.Refusal.{nothing, Answer, answer}
 use Rattle.algorithm.specs.declared.Reply.{Reply}
-use Rattle.algorithm.specs.Run.{numberOf, step, play, pieces, runTo}
+use Rattle.algorithm.specs.Run.{answerOf, replyBytes, repliesBytes, answered, step, play, pieces, runTo}
+use Rattle.algorithm.proofs.Replies.{step-carried, carried-eight, length-bytes, bytes-append}
 use Rattle.algorithm.proofs.Runs.{run-next, replies-count}
 use Rattle.table.specs.Layout.{tableIn}
 use Rattle.table.specs.Slice.{Holds}
@@ -16,7 +18,7 @@ use Rattle.table.proofs.HeldLaws.{its-table}
 use Rattle.walk.specs.Plan.{behind}
 use Rattle.walk.proofs.Laws.{behind-is}
 use Rattle.engine.specs.Engine.{Ready, Stepped, played, Played, AllRefused}
-use Rattle.engine.proofs.StepLaws.{step-number}
+use Rattle.engine.proofs.StepLaws.{step-answer}
 
 -- from the slice b₀, k pieces of the plan p are played: the slice is b, and the next piece is at `at`
 pub record Ran (b₀ p b : List ℕ) (at k : ℕ) : Type 0 where
@@ -26,14 +28,14 @@ pub record Ran (b₀ p b : List ℕ) (at k : ℕ) : Type 0 where
 
 -- they are answered: the replies were r₀, and are r
 pub record Replied (b₀ p r₀ r : List ℕ) (k : ℕ) : Type 0 where
-  pub replies : r ≡ runTo k (tableIn b₀) p .replies ++ drop k r₀
+  pub replies : r ≡ repliesBytes (runTo k (tableIn b₀) p .replies) ++ drop (8 * k) r₀
 
 pub ran-none : (b p : List ℕ) → Ready b → Ran b p b 0 0
 unfolding play pieces
 ran-none b p h = record { table = h .held; ready = h; place = omega arith }
 
 pub replied-none : (b p r : List ℕ) → Replied b p r r 0
-unfolding play pieces
+unfolding play pieces repliesBytes flatten
 replied-none b p r = record { replies = refl }
 
 -- the bytes from `at` to the end of its piece
@@ -57,9 +59,22 @@ module _ (b₀ p b : List ℕ) (at k end : ℕ) (h : Ran b₀ p b at k) (e : end
   pub piece-ends : end ≤ length p
   piece-ends = omega (arith, moved)
 
+-- a piece more leaves fewer
+pub fewer-left : (n k : ℕ) → k < n → n - (k + 1) < n - k
+fewer-left n k l = omega arith
+
 -- a reply more
-reply-more : (l r : List ℕ) (k x : ℕ) → length l ≡ k → k < length r → set (l ++ drop k r) k x ≡ (l ++ (x ∷ [])) ++ drop (k + 1) r
-reply-more l r k x e h = rw (drop-cons r k 0 h, set-at l (getD r k 0) (drop (suc k) r) x k e, append-assoc, add-one)
+reply-more : (rs : List Answer) (r : List ℕ) (k v : ℕ) (x : Answer) → length rs ≡ k → 8 * k + 8 ≤ length r → eight v ≡ replyBytes x
+    → putEight (repliesBytes rs ++ drop (8 * k) r) k v ≡ repliesBytes (rs ++ (x ∷ [])) ++ drop (8 * (k + 1)) r
+unfolding repliesBytes flatten
+reply-more rs r k v x e h f =
+    let l = repliesBytes rs in
+    let long : length l ≡ 8 * k = omega (arith, length-bytes rs) in
+    let next : 8 * (k + 1) ≡ 8 * k + 8 = omega arith in
+    let before : take (8 * k) (l ++ drop (8 * k) r) ≡ l = take-at l (drop (8 * k) r) (8 * k) long in
+    let behind : drop (8 * k + 8) (l ++ drop (8 * k) r) ≡ drop (8 * k + 8) r =
+    ap (λ (n : ℕ). drop (n + 8) (l ++ drop (8 * k) r)) (sym long) ∙ drop-append-add l (drop (8 * k) r) 8 ∙ drop-drop 8 (8 * k) r in
+    rw (before, behind, f, next, bytes-append rs (x ∷ [])) (sym (append-assoc l (replyBytes x) (drop (8 * k + 8) r)))
 
 module _ (b₀ p r₀ b : List ℕ) (at k end n : ℕ) (y : Reply) (a b' : List ℕ) (h : Ran b₀ p b at k) (few : n ≡ played p r₀) (l : k < n)
     (e : end ≡ behind p at) (is : a ≡ take (end - at) (drop at p)) (s : Stepped b a y b') where
@@ -74,13 +89,15 @@ module _ (b₀ p r₀ b : List ℕ) (at k end n : ℕ) (y : Reply) (a b' : List 
   pub ran-more : Ran b₀ p b' end (k + 1)
   ran-more = record { table = rw (run-next k (tableIn b₀) p, ← same, ← mine) (s .table); ready = s .ready; place = omega (arith, h .place, moved b₀ p b at k end h e) }
 
-  pub replied-more : (r r' : List ℕ) (x : ℕ) → Replied b₀ p r₀ r k → x ≡ numberOf y → r' ≡ set r k x → Replied b₀ p r₀ r' (k + 1)
-  replied-more r r' x q is-number w =
-      let number : x ≡ step (runTo k (tableIn b₀) p .table) (take 8 (drop (8 * k) p)) .number = rw (← same, ← mine) (is-number ∙ step-number s) in
+  pub replied-more : (r r' : List ℕ) (v : ℕ) → Replied b₀ p r₀ r k → v ≡ valueOf (replyBytes (answerOf y)) → r' ≡ putEight r k v → Replied b₀ p r₀ r' (k + 1)
+  replied-more r r' v q is-reply w =
+      let o = step (runTo k (tableIn b₀) p .table) (take 8 (drop (8 * k) p)) in
+      let carried : eight v ≡ replyBytes (answered o) = rw (← same, ← mine) (ap eight (is-reply ∙ ap (λ (x : Answer). valueOf (replyBytes x)) (step-answer s)) ∙ carried-eight (step-carried (tableIn b) a)) in
       record {
         replies =
-            w ∙ ap (λ (l : List ℕ). set l k x) (q .replies) ∙ reply-more (runTo k (tableIn b₀) p .replies) r₀ k x (replies-count k (tableIn b₀) p) (omega arith)
-            ∙ rw (run-next k (tableIn b₀) p, number);
+            w ∙ ap (λ (l : List ℕ). putEight l k v) (q .replies)
+            ∙ reply-more (runTo k (tableIn b₀) p .replies) r₀ k v (answered o) (replies-count k (tableIn b₀) p) (omega arith) carried
+            ∙ rw (run-next k (tableIn b₀) p);
       }
 
 pub ran-all : (b₀ p r₀ b r : List ℕ) (at k n : ℕ) → Ran b₀ p b at k → Replied b₀ p r₀ r k → n ≡ played p r₀ → k ≤ n → n ≤ k
@@ -91,18 +108,20 @@ ran-all b₀ p r₀ b r at k n h q e l m =
 
 -- ---- every piece refused
 
--- the first k replies are 1, and the rest as they were
+-- the first k replies are 1, and the rest as it was
 pub record Ones (r₀ r : List ℕ) (k : ℕ) : Type 0 where
-  pub all : r ≡ replicate k 1 ++ drop k r₀
+  pub all : r ≡ repliesBytes (replicate k (answer 1 nothing)) ++ drop (8 * k) r₀
 
 pub ones-none : (r : List ℕ) → Ones r r 0
+unfolding repliesBytes flatten
 ones-none r = record { all = refl }
 
-pub ones-more : (p r₀ r r' : List ℕ) (k n : ℕ) → Ones r₀ r k → n ≡ played p r₀ → k < n → r' ≡ set r k 1 → Ones r₀ r' (k + 1)
+pub ones-more : (p r₀ r r' : List ℕ) (k n : ℕ) → Ones r₀ r k → n ≡ played p r₀ → k < n → r' ≡ putEight r k 1 → Ones r₀ r' (k + 1)
+unfolding bytes
 ones-more p r₀ r r' k n h e l w = record {
   all =
-      w ∙ ap (λ (l : List ℕ). set l k 1) (h .all) ∙ reply-more (replicate k 1) r₀ k 1 (length-replicate k 1) (omega arith)
-      ∙ ap (λ (l : List ℕ). l ++ drop (k + 1) r₀) (replicate-append-replicate k 1 1);
+      w ∙ ap (λ (l : List ℕ). putEight l k 1) (h .all) ∙ reply-more (replicate k (answer 1 nothing)) r₀ k 1 (answer 1 nothing) (length-replicate k (answer 1 nothing)) (omega arith) refl
+      ∙ ap (λ (l : List Answer). repliesBytes l ++ drop (8 * (k + 1)) r₀) (replicate-append-replicate k 1 (answer 1 nothing));
 }
 
 pub ones-all : (p r₀ r : List ℕ) (k n : ℕ) → Ones r₀ r k → n ≡ played p r₀ → k ≤ n → n ≤ k

@@ -1,12 +1,13 @@
 -- What the engine asks of a slice, and what a step and a run leave in it. Assumes nothing.
-use Prim.Native.Nat.{ℕ, min}
+use Prim.Native.Nat.{ℕ, _*_, _/_, min}
 use mathlib.Core.Bool.{true, false}
 use mathlib.Core.List.{List, _++_}
 use mathlib.Core.Path.{_≡_}
 use lib.ListN.{length, drop, replicate}
+use Rattle.words.specs.Refusal.{nothing, answer}
 use Rattle.members.specs.Members.{within}
 use Rattle.algorithm.specs.declared.Reply.{Reply}
-use Rattle.algorithm.specs.Run.{replyOf, step, pieceCount, runTo}
+use Rattle.algorithm.specs.Run.{replyOf, repliesBytes, answered, step, pieceCount, runTo}
 use Rattle.algorithm.specs.Table.{count, broken}
 use Rattle.table.specs.Layout.{tableIn}
 use Rattle.table.specs.Slice.{Holds, Held, Within}
@@ -31,21 +32,21 @@ pub record Ready (b : List ℕ) : Type 0 where
 
 -- the action a on the slice b is answered r, and leaves b'
 pub record Stepped (b a : List ℕ) (r : Reply) (b' : List ℕ) : Type 0 where
-  pub reply : r ≡ replyOf (step (tableIn b) a .number)
+  pub reply : r ≡ replyOf (answered (step (tableIn b) a))
   pub table : Holds b' (step (tableIn b) a .table)
   pub ready : Ready b'
 
--- how many pieces of the plan p are played: all, or as many as r has room for replies
+-- how many pieces of the plan p are played: all, or as many as r has room for replies of eight bytes
 abbrev pub played : List ℕ → List ℕ → ℕ
-played p r = min (pieceCount p) (length r)
+played p r = min (pieceCount p) (length r / 8)
 
 -- the plan p on the slice b: k pieces are played; b' is left, and r' is their replies with the rest of r behind
 pub record Played (b p r : List ℕ) (k : ℕ) (b' r' : List ℕ) : Type 0 where
   pub count : k ≡ played p r
-  pub replies : r' ≡ runTo (played p r) (tableIn b) p .replies ++ drop (played p r) r
+  pub replies : r' ≡ repliesBytes (runTo (played p r) (tableIn b) p .replies) ++ drop (8 * played p r) r
   pub table : Holds b' (runTo (played p r) (tableIn b) p .table)
 
 -- the plan p on a broken table: k pieces are answered 1
 pub record AllRefused (p r : List ℕ) (k : ℕ) (r' : List ℕ) : Type 0 where
   pub count : k ≡ played p r
-  pub replies : r' ≡ replicate (played p r) 1 ++ drop (played p r) r
+  pub replies : r' ≡ repliesBytes (replicate (played p r) (answer 1 nothing)) ++ drop (8 * played p r) r

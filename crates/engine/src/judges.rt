@@ -1,11 +1,11 @@
 // What is asked, judged by its kind.
 ghost use mathlib.Core.Path.{_≡_};
-ghost use Rattle.algorithm.specs.Run.{ownRefusals};
-ghost use Rattle.words.specs.Refusal.{first};
+ghost use Rattle.algorithm.specs.Run.{replyOf, ownRefusals};
+ghost use Rattle.words.specs.Refusal.{given};
 ghost use Rattle.table.specs.Layout.{tableIn};
-ghost use Rattle.table.specs.Slice.{Held};
 ghost use Rattle.form.specs.Form.{named};
-ghost use Rattle.engine.specs.Engine.{Fitting};
+ghost use Rattle.engine.specs.Engine.{Ready, Fitting};
+use algorithm::Reply;
 use form::Asked;
 use pair_judges::judge_fetch;
 use pair_judges::judge_roll_back;
@@ -16,11 +16,11 @@ use set_judges::judge_commit;
 use set_judges::judge_elect;
 use set_judges::judge_reconfigure;
 
-// The first refusal of the kind's own, 0 for none.
-pub fn judge(t: &[u8], x: Asked) -> u8
-    requires { ⌜ Held (now t) ⌝ }
+// The reply of the kind's own refusals.
+pub fn judge(t: &[u8], x: Asked) -> Reply
+    requires { ⌜ Ready (now t) ⌝ }
     requires { ⌜ Fitting (now t) x ⌝ }
-    ensures { λ r. ⌜ r ≡ first (ownRefusals (tableIn (now (t .entry))) (named x)) ⌝ }
+    ensures { λ r. ⌜ r ≡ replyOf (given (ownRefusals (tableIn (now (t .entry))) (named x))) ⌝ }
 {
     match x {
         Asked::Elect(i, q) => judge_elect(t, i, q),

@@ -5,11 +5,12 @@ use crate::judges::judge;
 use crate::pieces::lesser;
 use crate::pieces::piece_count;
 use algorithm::Reply;
-use algorithm::number;
+use algorithm::eight_bytes;
 use form::Form;
 use form::read_action;
 use table::rows::count_of;
 use walk::next_place;
+use words::put_eight;
 
 pub mod act;
 pub mod judges;
@@ -24,11 +25,10 @@ pub fn step(t: &mut [u8], a: &[u8]) -> Reply
         Form::Refused(k) => Reply::Refused(k),
         Form::Asks(x) => {
             let own = judge(t, x);
-            if own != 0 {
-                return Reply::Refused(own);
+            if let Reply::Taken = own {
+                act(t, x);
             }
-            act(t, x);
-            Reply::Taken
+            own
         }
     }
 }
@@ -38,12 +38,12 @@ pub fn run(t: &mut [u8], actions: &[u8], replies: &mut [u8]) -> usize
     requires { ⌜ Ready (now t) ⌝ }
     ensures { λ r. ⌜ Played (now (t .entry)) (now (actions .entry)) (now (replies .entry)) r (now (t .exit)) (now (replies .exit)) ⌝ }
 {
-    let n = lesser(piece_count(actions), replies.len());
+    let n = lesser(piece_count(actions), replies.len() / 8);
     let mut at: usize = 0;
     let mut k: usize = 0;
     while k < n {
         let end = next_place(actions, at);
-        replies[k] = number(step(t, &actions[at..end]));
+        put_eight(replies, k, eight_bytes(step(t, &actions[at..end])));
         at = end;
         k += 1;
     }
@@ -54,10 +54,10 @@ pub fn run(t: &mut [u8], actions: &[u8], replies: &mut [u8]) -> usize
 pub fn refuse_all(actions: &[u8], replies: &mut [u8]) -> usize
     ensures { λ r. ⌜ AllRefused (now (actions .entry)) (now (replies .entry)) r (now (replies .exit)) ⌝ }
 {
-    let n = lesser(piece_count(actions), replies.len());
+    let n = lesser(piece_count(actions), replies.len() / 8);
     let mut k: usize = 0;
     while k < n {
-        replies[k] = 1;
+        put_eight(replies, k, 1);
         k += 1;
     }
     n

@@ -90,7 +90,7 @@ module _ (t : Table) where
   place e = firstBody (count t) + length (flatten (take e (bodies t)))
 
   abbrev pub joined : List ℕ → List ℕ
-  joined rest = opening (count t) ++ (front ++ (flatten (bodies t) ++ rest))
+  joined rest = opening t ++ (front ++ (flatten (bodies t) ++ rest))
 
   pub many : length (bodies t) ≡ count t + 1
   many = omega (arith, length-map (t .servers) serverBody)
@@ -102,20 +102,20 @@ module _ (t : Table) where
   pub image-joined : (rest : List ℕ) → image t ++ rest ≡ joined rest
   unfolding image
   image-joined rest =
-      append-assoc (opening (count t)) (front ++ flatten (bodies t)) rest
-      ∙ ap (λ (l : List ℕ). opening (count t) ++ l) (append-assoc front (flatten (bodies t)) rest)
+      append-assoc (opening t) (front ++ flatten (bodies t)) rest
+      ∙ ap (λ (l : List ℕ). opening t ++ l) (append-assoc front (flatten (bodies t)) rest)
 
   module _ (short : firstBody (count t) + length (flatten (bodies t)) < 65536) (rest : List ℕ) (e : ℕ) (h : e ≤ count t) where
     says : Says (front ++ (flatten (bodies t) ++ rest)) e (place e) (length (getD (bodies t) e (serverBody absent)))
     says = contents-say (serverBody absent) (firstBody (count t)) (bodies t) e (flatten (bodies t) ++ rest) (omega (arith, many)) short
 
     pub its-offset : offset (joined rest) e ≡ place e
-    its-offset = half-past (opening (count t)) (front ++ (flatten (bodies t) ++ rest)) 8 (4 * e) refl ∙ says .offset
+    its-offset = half-past (opening t) (front ++ (flatten (bodies t) ++ rest)) 8 (4 * e) refl ∙ says .offset
 
     pub its-size : size (joined rest) e ≡ length (getD (bodies t) e (serverBody absent))
     its-size =
         let on : 10 + 4 * e ≡ 8 + (4 * e + 2) = omega arith in
-        rw on (half-past (opening (count t)) (front ++ (flatten (bodies t) ++ rest)) 8 (4 * e + 2) refl ∙ says .size)
+        rw on (half-past (opening t) (front ++ (flatten (bodies t) ++ rest)) 8 (4 * e + 2) refl ∙ says .size)
 
     pub its-stop : stop (joined rest) e ≡ place (suc e)
     its-stop =
@@ -125,7 +125,7 @@ module _ (t : Table) where
 
     pub its-body : body (joined rest) e ≡ getD (bodies t) e (serverBody absent)
     its-body =
-        let pre = opening (count t) ++ front in
+        let pre = opening t ++ front in
         let long : length pre ≡ firstBody (count t) = omega (arith, many, length-contents (firstBody (count t)) (bodies t)) in
-        rw (its-offset, its-size, ← append-assoc (opening (count t)) front (flatten (bodies t) ++ rest))
+        rw (its-offset, its-size, ← append-assoc (opening t) front (flatten (bodies t) ++ rest))
         (body-there (serverBody absent) (place e) pre (bodies t) e rest (omega arith) (omega (arith, many)))

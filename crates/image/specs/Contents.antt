@@ -6,25 +6,32 @@ use lib.Dec.{leb, eqb}
 use lib.ListN.{length, getD, drop}
 use Rattle.words.specs.Lists.{between, allBelow, nth, every, part}
 use Rattle.words.specs.Words.{halfAt, words}
-use Rattle.algorithm.specs.Table.{positions, entries, Server, ceiling, soundServer, serverWith, configOf}
+use Rattle.algorithm.specs.Table.{positions, entries, Server, ceiling, soundServer, soundRule, serverWith, configOf}
 use Rattle.table.specs.Layout.{padded}
 
 -- ---- the opening
 
--- the letters SITE, and 0 in bytes 5 to 7
-abbrev pub opened : List ℕ → Bool
-opened im =
+-- n, the number of servers
+abbrev pub countIn : List ℕ → ℕ
+countIn im = getD im 4 0
+
+-- the rule
+abbrev pub ruleIn : List ℕ → ℕ
+ruleIn im = getD im 6 0
+
+-- the letters SITE, and 0 in bytes 5 and 7
+abbrev pub lettered : List ℕ → Bool
+lettered im =
     eqb (getD im 0 0) 83
     && eqb (getD im 1 0) 73
     && eqb (getD im 2 0) 84
     && eqb (getD im 3 0) 69
     && eqb (getD im 5 0) 0
-    && eqb (getD im 6 0) 0
     && eqb (getD im 7 0) 0
 
--- n, the number of servers
-abbrev pub countIn : List ℕ → ℕ
-countIn im = getD im 4 0
+-- these, and one of the two rules
+abbrev pub opened : List ℕ → Bool
+opened im = lettered im && soundRule (ruleIn im)
 
 -- ---- the contents: entry 0 is for the marks, entry s for server s
 

@@ -7,9 +7,9 @@ use Rattle.words.specs.Words.{half, bytes}
 use Rattle.table.specs.Layout.{terms}
 use Rattle.image.specs.Contents.{firstBody, figureBytes}
 
--- the letters SITE, the number of servers, three 0
-abbrev pub opening : ℕ → List ℕ
-opening n = 83 ∷ 73 ∷ 84 ∷ 69 ∷ n ∷ 0 ∷ 0 ∷ 0 ∷ []
+-- the letters SITE, the number of servers, 0, the rule, 0
+abbrev pub opening : Table → List ℕ
+opening t = 83 ∷ 73 ∷ 84 ∷ 69 ∷ count t ∷ 0 ∷ t .rule ∷ 0 ∷ []
 
 -- the marks in four bytes each
 abbrev pub marksBody : List ℕ → List ℕ
@@ -31,7 +31,7 @@ contents at (b ∷ bs) = half at ++ (half (length b) ++ contents (at + length b)
 
 -- the opening, the contents, and the bodies one after another
 unfoldable pub image : Table → List ℕ
-image t = opening (count t) ++ (contents (firstBody (count t)) (bodies t) ++ flatten (bodies t))
+image t = opening t ++ (contents (firstBody (count t)) (bodies t) ++ flatten (bodies t))
 
 -- the length of the longest image: that of the most servers, with every log full and a mark at the last position
 abbrev pub longestImage : ℕ

@@ -5,6 +5,7 @@ ghost use lib.ListN.{length};
 ghost use Rattle.algorithm.specs.Table.{soundCount};
 ghost use Rattle.image.specs.Contents.{opened, countIn, offset, size, stop, firstBody, start, figureBytes, fixed, mayHave, laid, laidOut};
 use algorithm::POSITIONS;
+use algorithm::RULE_2;
 use algorithm::SERVERS;
 use words::half;
 use words::wide;
@@ -32,8 +33,8 @@ pub fn is_opened(image: &[u8]) -> bool
         & (image[2] == b'T')
         & (image[3] == b'E')
         & (image[5] == 0)
-        & (image[6] == 0)
         & (image[7] == 0)
+        & (image[6] <= RULE_2 as u8)
 }
 
 pub fn is_counted(image: &[u8]) -> bool

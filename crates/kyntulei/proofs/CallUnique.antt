@@ -4,11 +4,11 @@ use mathlib.Core.List.{List}
 use mathlib.Core.Path.{_≡_, sym, _∙_}
 use Rattle.kyntulei.specs.Promise.{FreshAnswer, StepAnswer, RunAnswer}
 
-pub fresh-unique : {b x y : List ℕ} {n m r s : ℕ} → FreshAnswer b n m r x → FreshAnswer b n m s y → (r ≡ s) × (x ≡ y)
+pub fresh-unique : {b x y : List ℕ} {n m R r s : ℕ} → FreshAnswer b n m R r x → FreshAnswer b n m R s y → (r ≡ s) × (x ≡ y)
 fresh-unique h k = (h .reply ∙ sym (k .reply), h .bytes ∙ sym (k .bytes))
 
-pub step-unique : {b a x y : List ℕ} {r s : ℕ} → StepAnswer b a r x → StepAnswer b a s y → (r ≡ s) × (x ≡ y)
-step-unique h k = (h .reply ∙ sym (k .reply), h .bytes ∙ sym (k .bytes))
+pub step-unique : {b a x y : List ℕ} {r s v w : ℕ} → StepAnswer b a r v x → StepAnswer b a s w y → (r ≡ s) × (v ≡ w) × (x ≡ y)
+step-unique h k = (h .number ∙ sym (k .number), h .reply ∙ sym (k .reply), h .bytes ∙ sym (k .bytes))
 
 pub run-unique : {b p r x y u v : List ℕ} {i j : ℕ} → RunAnswer b p r i x u → RunAnswer b p r j y v → (i ≡ j) × (x ≡ y) × (u ≡ v)
 run-unique h k = (h .count ∙ sym (k .count), h .bytes ∙ sym (k .bytes), h .replies ∙ sym (k .replies))

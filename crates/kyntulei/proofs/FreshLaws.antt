@@ -1,53 +1,98 @@
--- Laws of a slice filled with a fresh table, branch by branch. Assumes nothing.
+-- The reply to a fresh table that is asked for, by the tests that lead to it, and what is known where it is 0. Assumes nothing.
 use Prim.Native.Nat.{ℕ, _≤_, _<_}
 use mathlib.Core.Bool.{Bool, true, false}
 use mathlib.Core.List.{List}
-use mathlib.Core.Path.{_≡_, sym}
+use mathlib.Core.Path.{_≡_, sym, _∙_}
 use native.Mathlib.Omega.{arith}
+use lib.Dec.{eqb}
 use lib.Pow.{pow-mono}
 use mir.Facts.{fits-of-lt}
-use mir.Syntax.{w16}
+use mir.Syntax.{w8, w16}
 use mir.Val.{Fits}
 use lib.ListN.{length}
 use borrow.Author.Tests.{eq-eqb, ne-eqb, le-leb, lt-leb}
 use Rattle.members.specs.Members.{within}
-use Rattle.words.proofs.Tests.{Passes}
-use Rattle.algorithm.specs.Table.{fresh, mostServers}
+use Rattle.words.proofs.RefusalLaws.{none-hold}
+use Rattle.words.proofs.Tests.{Passes, refuted, both-refuted, both, equal, at-most}
+use Rattle.words.specs.Lists.{every}
 use Rattle.words.specs.Refusal.{first}
+use Rattle.algorithm.specs.Table.{fresh, mostServers, soundRule}
 use Rattle.algorithm.proofs.Seen.{within-width}
 use Rattle.table.specs.Layout.{tableBytes, stored}
-use Rattle.kyntulei.specs.Promise.{freshReply, FreshAnswer}
+use Rattle.kyntulei.specs.Promise.{freshRefusals, freshReply, FreshAnswer}
 
-module _ (b : List ℕ) (n m : ℕ) where
-  refused : (k : ℕ) → 0 < k → freshReply b n m ≡ k → FreshAnswer b n m k b
-  refused k h e = let z = ne-eqb k 0 (omega arith) in record { reply = sym e; bytes = rw (e, z) }
+-- ---- the refusals one by one
 
-  pub other-length : (length b ≡ tableBytes → ⊥) → FreshAnswer b n m 1 b
+module _ (b : List ℕ) (n m R : ℕ) where
+  pub other-length : (length b ≡ tableBytes → ⊥) → 1 ≡ freshReply b n m R
   unfolding first
-  other-length h = refused 1 (omega arith) (rw (ne-eqb (length b) tableBytes h))
+  other-length h = rw (ne-eqb (length b) tableBytes h)
 
   module _ (sized : length b ≡ tableBytes) where
-    pub no-server : n ≡ 0 → FreshAnswer b n m 32 b
+    pub other-rule : 1 < R → 1 ≡ freshReply b n m R
     unfolding first
-    no-server z = refused 32 (omega arith) (rw (eq-eqb (length b) tableBytes sized, z))
+    other-rule h = rw (eq-eqb (length b) tableBytes sized, lt-leb R 1 h)
 
-    pub too-many : (n ≡ 0 → ⊥) → mostServers < n → FreshAnswer b n m 32 b
-    unfolding first
-    too-many z h = refused 32 (omega arith) (rw (eq-eqb (length b) tableBytes sized, le-leb 1 n (omega arith), lt-leb n mostServers h))
-
-    module _ (some : n ≡ 0 → ⊥) (few : n ≤ mostServers) (q : Bool) (is : q ≡ within m n) where
-      pub bad-set : q ≡ false → FreshAnswer b n m 5 b
+    module _ (one : R ≤ 1) where
+      pub no-server : n ≡ 0 → 32 ≡ freshReply b n m R
       unfolding first
-      bad-set e = refused 5 (omega arith) (rw (eq-eqb (length b) tableBytes sized, le-leb 1 n (omega arith), le-leb n mostServers few, ← is, e))
+      no-server z = rw (eq-eqb (length b) tableBytes sized, le-leb R 1 one, z)
 
-      pub filled : (b' : List ℕ) → q ≡ true → b' ≡ stored (fresh n m) → FreshAnswer b n m 0 b'
+      pub too-many : (n ≡ 0 → ⊥) → mostServers < n → 32 ≡ freshReply b n m R
       unfolding first
-      filled b' e k =
-          let z : freshReply b n m ≡ 0 = rw (eq-eqb (length b) tableBytes sized, le-leb 1 n (omega arith), le-leb n mostServers few, ← is, e) in
-          record { reply = sym z; bytes = rw z k }
+      too-many z h = rw (eq-eqb (length b) tableBytes sized, le-leb R 1 one, le-leb 1 n (omega arith), lt-leb n mostServers h)
 
--- a set within 16 servers has 16 bits
-pub set-fits : (m n : ℕ) (q : Bool) → n ≤ mostServers → q ≡ within m n → q ≡ true → Fits w16 m
-set-fits m n q few is e =
-    let w : Passes (within m n) = rw (← is, e) (record { yes = tt }) in
-    fits-of-lt (omega (arith, within-width {m = m} n w, pow-mono {i = n} {j = mostServers} few))
+      module _ (some : n ≡ 0 → ⊥) (few : n ≤ mostServers) (q : Bool) (is : q ≡ within m n) where
+        pub bad-set : q ≡ false → 5 ≡ freshReply b n m R
+        unfolding first
+        bad-set e = rw (eq-eqb (length b) tableBytes sized, le-leb R 1 one, le-leb 1 n (omega arith), le-leb n mostServers few, ← is, e)
+
+        pub good-set : q ≡ true → 0 ≡ freshReply b n m R
+        unfolding first
+        good-set e = rw (eq-eqb (length b) tableBytes sized, le-leb R 1 one, le-leb 1 n (omega arith), le-leb n mostServers few, ← is, e)
+
+-- ---- what is asked for where nothing is refused
+
+pub record Fillable (b : List ℕ) (n m R : ℕ) : Type 0 where
+  pub sized : length b ≡ tableBytes
+  pub some : 1 ≤ n
+  pub few : n ≤ mostServers
+  pub set : Passes (within m n)
+  pub rule : R ≤ 1
+
+pub fillable : (b : List ℕ) (n m R : ℕ) → freshReply b n m R ≡ 0 → Fillable b n m R
+unfolding every
+fillable b n m R e =
+    let none = none-hold (freshRefusals b n m R) tt e in
+    let (sized, rule) = both-refuted {a = eqb (length b) tableBytes} {b = soundRule R} (none 1) in
+    let (some, few) = both (refuted (none 32)) in
+    record { sized = equal sized; some = at-most some; few = at-most few; set = refuted (none 5); rule = at-most rule }
+
+-- ---- the answer
+
+module _ (b : List ℕ) (n m R k : ℕ) (e : k ≡ freshReply b n m R) where
+  pub refused : (k ≡ 0 → ⊥) → FreshAnswer b n m R k b
+  refused h = record { reply = e; bytes = rw (ne-eqb (freshReply b n m R) 0 (λ z. h (e ∙ z))) }
+
+  module _ (h : k ≡ 0) where
+    asked : Fillable b n m R
+    asked = fillable b n m R (sym e ∙ h)
+
+    pub fill-sized : length b ≡ tableBytes
+    fill-sized = asked .sized
+
+    pub fill-few : n ≤ mostServers
+    fill-few = asked .few
+
+    pub count-fits : Fits w8 n
+    count-fits = fits-of-lt (omega (arith, fill-few))
+
+    -- a set within 16 servers has 16 bits
+    pub set-fits : Fits w16 m
+    set-fits = fits-of-lt (omega (arith, within-width {m = m} n (asked .set), pow-mono {i = n} {j = mostServers} fill-few))
+
+    pub rule-fits : Fits w8 R
+    rule-fits = fits-of-lt (omega (arith, asked .rule))
+
+    pub filled : (b' : List ℕ) → b' ≡ stored (fresh n m R) → FreshAnswer b n m R 0 b'
+    filled b' f = record { reply = sym h ∙ e; bytes = rw (eq-eqb (freshReply b n m R) 0 (sym e ∙ h)) f }

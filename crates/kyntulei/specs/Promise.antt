@@ -1,59 +1,65 @@
 -- What the exported functions answer and leave, computed from the bytes that they are given, and the slices that calls lead to. Assumes nothing.
-use Prim.Native.Nat.{ℕ, _<_}
-use mathlib.Core.Bool.{cond, not}
+use Prim.Native.Nat.{ℕ, _*_, _<_}
+use mathlib.Core.Bool.{cond, not, _||_}
 use mathlib.Core.List.{List, [], _∷_, _++_}
 use mathlib.Core.Path.{_≡_}
 use lib.Dec.{eqb}
 use lib.ListN.{length, drop, replicate, take}
-use Rattle.words.specs.Refusal.{Refusal, refuse, first, unlessRefused}
+use Rattle.words.specs.Words.{valueOf, eight}
+use Rattle.words.specs.Refusal.{nothing, Refusal, refuse, first, Answer, answer, unlessRefused}
 use Rattle.members.specs.Members.{within}
-use Rattle.algorithm.specs.Table.{soundCount, fresh}
-use Rattle.algorithm.specs.Run.{step, runTo, pieces}
+use Rattle.algorithm.specs.Table.{soundCount, soundRule, fresh}
+use Rattle.algorithm.specs.Run.{replyBytes, repliesBytes, answered, step, runTo, pieces}
 use Rattle.table.specs.Layout.{tableBytes, stored, tableIn, whole}
 use Rattle.engine.specs.Engine.{played}
 use Rattle.reader.specs.Reader.{ReadAnswer}
 use Rattle.writer.specs.Writer.{WriteAnswer}
 
--- ---- a fresh table of n servers with the set m, into the slice b
+-- ---- a fresh table of n servers with the set m under the rule R, into the slice b
 
--- in this order: 1 for another length, 32 for n outside 1 to 16, 5 for an empty set or one with a bit above n
-abbrev pub freshRefusals : List ℕ → ℕ → ℕ → List Refusal
-freshRefusals b n m =
-    refuse 1 (not (eqb (length b) tableBytes)) ∷ refuse 32 (not (soundCount n)) ∷ refuse 5 (not (within m n)) ∷ []
+-- in this order: 1 for another length or a rule above 1, 32 for n outside 1 to 16, 5 for an empty set or one with a bit above n
+abbrev pub freshRefusals : List ℕ → ℕ → ℕ → ℕ → List Refusal
+freshRefusals b n m R =
+    refuse 1 (not (eqb (length b) tableBytes) || not (soundRule R)) ∷ refuse 32 (not (soundCount n)) ∷ refuse 5 (not (within m n)) ∷ []
 
 -- the first of them, or 0
-abbrev pub freshReply : List ℕ → ℕ → ℕ → ℕ
-freshReply b n m = first (freshRefusals b n m)
+abbrev pub freshReply : List ℕ → ℕ → ℕ → ℕ → ℕ
+freshReply b n m R = first (freshRefusals b n m R)
 
 -- the slice afterwards: the bytes of a fresh table, or as it was
-abbrev pub freshBytes : List ℕ → ℕ → ℕ → List ℕ
-freshBytes b n m = unlessRefused (freshReply b n m) (stored (fresh n m)) b
+abbrev pub freshBytes : List ℕ → ℕ → ℕ → ℕ → List ℕ
+freshBytes b n m R = unlessRefused (freshReply b n m R) (stored (fresh n m R)) b
 
 -- the reply r, and the slice b' at exit
-pub record FreshAnswer (b : List ℕ) (n m r : ℕ) (b' : List ℕ) : Type 0 where
-  pub reply : r ≡ freshReply b n m
-  pub bytes : b' ≡ freshBytes b n m
+pub record FreshAnswer (b : List ℕ) (n m R r : ℕ) (b' : List ℕ) : Type 0 where
+  pub reply : r ≡ freshReply b n m R
+  pub bytes : b' ≡ freshBytes b n m R
 
 -- ---- the action a on the slice b
 
--- the algorithm's reply, or 1
-abbrev pub stepReply : List ℕ → List ℕ → ℕ
-stepReply b a = cond (whole b) (step (tableIn b) a .number) 1
+-- the algorithm's answer, or 1
+abbrev pub stepReply : List ℕ → List ℕ → Answer
+stepReply b a = cond (whole b) (answered (step (tableIn b) a)) (answer 1 nothing)
 
 -- the slice afterwards: the bytes of the algorithm's table, or as it was
 abbrev pub stepBytes : List ℕ → List ℕ → List ℕ
 stepBytes b a = cond (whole b) (stored (step (tableIn b) a .table)) b
 
--- the reply r, and the slice b' at exit
-pub record StepAnswer (b a : List ℕ) (r : ℕ) (b' : List ℕ) : Type 0 where
-  pub reply : r ≡ stepReply b a
+-- the number r, the eight bytes of the reply as the number w, and the slice b' at exit
+pub record StepAnswer (b a : List ℕ) (r w : ℕ) (b' : List ℕ) : Type 0 where
+  pub number : r ≡ stepReply b a .number
+  pub reply : w ≡ valueOf (replyBytes (stepReply b a))
   pub bytes : b' ≡ stepBytes b a
 
 -- ---- the plan p on the slice b, with room for the replies in the slice r
 
--- the replies of the pieces that are played, each 1 on a broken table; behind them r as it was
+-- the replies of the pieces that are played, each 1 on a broken table
+abbrev pub runAnswers : List ℕ → List ℕ → List ℕ → List Answer
+runAnswers b p r = cond (whole b) (runTo (played p r) (tableIn b) p .replies) (replicate (played p r) (answer 1 nothing))
+
+-- their bytes; behind them r as it was
 abbrev pub runReplies : List ℕ → List ℕ → List ℕ → List ℕ
-runReplies b p r = (cond (whole b) (runTo (played p r) (tableIn b) p .replies) (replicate (played p r) 1)) ++ drop (played p r) r
+runReplies b p r = repliesBytes (runAnswers b p r) ++ drop (8 * played p r) r
 
 -- the slice afterwards: the bytes of the last table, or as it was
 abbrev pub runBytes : List ℕ → List ℕ → List ℕ → List ℕ
@@ -65,15 +71,15 @@ pub record RunAnswer (b p r : List ℕ) (k : ℕ) (b' r' : List ℕ) : Type 0 wh
   pub replies : r' ≡ runReplies b p r
   pub bytes : b' ≡ runBytes b p r
 
--- Calls one after another, from the slice b: the actions that were judged, the replies to them, and the slice that is left.
+-- Calls one after another, from the slice b: the actions that were judged, the bytes of the replies to them, and the slice that is left.
 pub data Calls (b : List ℕ) : List (List ℕ) → List ℕ → List ℕ → Type 0 where
   none : Calls b [] [] b
-  -- a step judges its action
-  stepped : {plan : List (List ℕ)} {replies c a c' : List ℕ} {r : ℕ} → Calls b plan replies c
-      → StepAnswer c a r c' → Calls b (plan ++ (a ∷ [])) (replies ++ (r ∷ [])) c'
+  -- a step judges its action, and the reply is told as a number
+  stepped : {plan : List (List ℕ)} {replies c a c' : List ℕ} {r w : ℕ} → Calls b plan replies c
+      → StepAnswer c a r w c' → Calls b (plan ++ (a ∷ [])) (replies ++ eight w) c'
   -- a run judges k pieces of its plan, a short last one among them, and their replies stand first in its buffer
   ran : {plan : List (List ℕ)} {replies c p s c' s' : List ℕ} {k : ℕ} → Calls b plan replies c
-      → RunAnswer c p s k c' s' → Calls b (plan ++ pieces k p) (replies ++ take k s') c'
+      → RunAnswer c p s k c' s' → Calls b (plan ++ pieces k p) (replies ++ take (8 * k) s') c'
   -- the slice is written into a buffer, and what was written, with any bytes behind it, is read into a slice: that one goes on
   carried : {plan : List (List ℕ)} {replies c buffer buffer' d d' : List ℕ} {e e' z z' : ℕ} → Calls b plan replies c
       → WriteAnswer c buffer e 0 buffer' e' → (rest : List ℕ) → ReadAnswer (take e' buffer' ++ rest) d z 0 d' z' → Calls b plan replies d'
@@ -81,11 +87,11 @@ pub data Calls (b : List ℕ) : List (List ℕ) → List ℕ → List ℕ → Ty
   unread : {plan : List (List ℕ)} {replies c c' : List ℕ} {r : ℕ} → Calls b plan replies c
       → (im : List ℕ) (e e' : ℕ) → ReadAnswer im c e r c' e' → 0 < r → Calls b plan replies c'
   unfilled : {plan : List (List ℕ)} {replies c c' : List ℕ} {r : ℕ} → Calls b plan replies c
-      → (n m : ℕ) → FreshAnswer c n m r c' → 0 < r → Calls b plan replies c'
+      → (n m R : ℕ) → FreshAnswer c n m R r c' → 0 < r → Calls b plan replies c'
 
--- A slice is filled with a fresh table of n servers with the set m, and calls lead from it to the slice b.
-pub record Reached (n m : ℕ) (plan : List (List ℕ)) (replies b : List ℕ) : Type 0 where
+-- A slice is filled with a fresh table of n servers with the set m under the rule R, and calls lead from it to the slice b.
+pub record Reached (n m R : ℕ) (plan : List (List ℕ)) (replies b : List ℕ) : Type 0 where
   pub given : List ℕ
   pub first : List ℕ
-  pub filled : FreshAnswer given n m 0 first
+  pub filled : FreshAnswer given n m R 0 first
   pub calls : Calls first plan replies b

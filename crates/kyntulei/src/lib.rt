@@ -3,8 +3,10 @@ ghost use mathlib.Core.Path.{_≡_};
 ghost use Rattle.table.specs.Layout.{tableBytes};
 ghost use Rattle.reader.specs.Reader.{ReadAnswer};
 ghost use Rattle.writer.specs.Writer.{WriteAnswer};
-ghost use Rattle.kyntulei.specs.Promise.{FreshAnswer, StepAnswer, RunAnswer};
+ghost use Rattle.kyntulei.specs.Promise.{freshReply, FreshAnswer, StepAnswer, RunAnswer};
+use algorithm::RULE_2;
 use algorithm::SERVERS;
+use algorithm::eight_bytes;
 use algorithm::number;
 use engine::refuse_all;
 use engine::run;
@@ -25,11 +27,14 @@ pub extern "C" fn kyntulei_table_bytes() -> usize
     BYTES
 }
 
-#[no_mangle]
-pub extern "C" fn kyntulei_fresh(table: &mut [u8], n: u32, set: u32) -> u32
-    ensures { λ r. ⌜ FreshAnswer (now (table .entry)) n set r (now (table .exit)) ⌝ }
+// The reply's number, before anything is written.
+fn judge_fresh(table: &[u8], n: u32, set: u32, rule: u32) -> u32
+    ensures { λ r. ⌜ r ≡ freshReply (now (table .entry)) n set rule ⌝ }
 {
     if table.len() != BYTES {
+        return 1;
+    }
+    if RULE_2 < rule {
         return 1;
     }
     if n == 0 {
@@ -39,20 +44,34 @@ pub extern "C" fn kyntulei_fresh(table: &mut [u8], n: u32, set: u32) -> u32
         return 32;
     }
     if is_within(set, n as u8) {
-        fill_fresh(table, n as u8, set as u16);
         return 0;
     }
     5
 }
 
-// One action: 0 where it is taken, else the refusal's number.
 #[no_mangle]
-pub extern "C" fn kyntulei_step(table: &mut [u8], action: &[u8]) -> u32
-    ensures { λ r. ⌜ StepAnswer (now (table .entry)) (now (action .entry)) r (now (table .exit)) ⌝ }
+pub extern "C" fn kyntulei_fresh(table: &mut [u8], n: u32, set: u32, rule: u32) -> u32
+    ensures { λ r. ⌜ FreshAnswer (now (table .entry)) n set rule r (now (table .exit)) ⌝ }
+{
+    let number = judge_fresh(table, n, set, rule);
+    if number != 0 {
+        return number;
+    }
+    fill_fresh(table, n as u8, set as u16, rule as u8);
+    0
+}
+
+// One action: 0 where it is taken, else the refusal's number; and all of the reply as one number.
+#[no_mangle]
+pub extern "C" fn kyntulei_step(table: &mut [u8], action: &[u8], reply: &mut u64) -> u32
+    ensures { λ r. ⌜ StepAnswer (now (table .entry)) (now (action .entry)) r (now (reply .exit)) (now (table .exit)) ⌝ }
 {
     if is_whole(table) {
-        number(step(table, action)) as u32
+        let answer = step(table, action);
+        *reply = eight_bytes(answer);
+        number(answer) as u32
     } else {
+        *reply = 1;
         1
     }
 }

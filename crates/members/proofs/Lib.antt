@@ -4,3 +4,6 @@ pub mod Counting
 pub mod Masks
 pub mod Majorities
 pub mod Meaning
+pub mod Lowest
+pub mod Pairs
+pub mod Worked

@@ -1,19 +1,20 @@
 -- The laws of majorities: when they meet, what they have in common, and what the tests on members mean. Assumes nothing.
 use mathlib.Core.Path.{_≡_, refl, sym, ap, subst, _∙_}
 use mathlib.Core.Bool.{Bool, true, false, _||_, _&&_}
-use mathlib.Core.Logic.{_⊎_, inl, inr, ⊎-elim}
+use mathlib.Core.Logic.{_≢_, _⊎_, inl, inr, ⊎-elim}
 use Prim.Native.Nat.{ℕ, zero, suc, _+_, _^_, _≤_, _<_}
 use native.Mathlib.Nat.{eq-or-lt-of-le}
 use native.Mathlib.Omega.{arith}
 use lib.Dec.{T}
-use lib.Bits.{bitAnd, bitXor, and-self}
+use lib.Bits.{bitAnd, bitXor, and-le-r, and-self}
 use lib.Count.{ones}
-use mir.Facts.{and-yes, yes-and}
+use mir.Facts.{and-yes}
 use Rattle.members.specs.Members.{member, Member, Subset, oneApart, Majority, majority, mask, allPass, somePass, mostPass}
-use Rattle.members.proofs.Said.{Meet, MajoritiesMeet, All, Some, Most, Hits}
-use Rattle.words.proofs.Tests.{Passes, Fails, both, together, contradiction, fails, equal, less, is-equal, is-less}
+use Rattle.members.specs.Rules.{Meet, MajoritiesMeet, leastShared, allMeet, mayFollow}
+use Rattle.members.proofs.Said.{All, Some, Most, Hits}
+use Rattle.words.proofs.Tests.{Passes, Fails, both, together, contradiction, fails, equal, less, at-most, is-equal, is-less}
 use Rattle.members.proofs.Counting.{count, count-some, count-mono, count-both, count-unlike}
-use Rattle.members.proofs.Masks.{fits, ext, ones-count, ones-shared, ones-unlike, and-member, in-mask, mask-in, member-pos, member-le, a-member, member-some}
+use Rattle.members.proofs.Masks.{fits, ext, ones-count, ones-shared, ones-unlike, and-member, in-both, both-in, in-mask, mask-in, member-pos, member-le, a-member, member-some}
 
 -- ---- subsets and majorities, as they are tested
 
@@ -26,9 +27,12 @@ subset-and : (q m : ℕ) → Subset q m → bitAnd q m ≡ q
 subset-and q m h = ext (bitAnd q m) q (λ s. and-member s q m ∙ and-absorb (member s q) (member s m) (h s))
 
 and-subset : (q m : ℕ) → bitAnd q m ≡ q → Subset q m
-and-subset q m e s t = and-yes (member s q) (member s m) (subst T (ap (member s) (sym e) ∙ and-member s q m) t) .1
+and-subset q m e s t = in-both q m s (subst (Member s) (sym e) t) .1
 
-subset-ones : (q m : ℕ) → Subset q m → ones q ≤ ones m
+pub subset-le : (q m : ℕ) → Subset q m → q ≤ m
+subset-le q m h = omega (arith, subset-and q m h, and-le-r q m)
+
+pub subset-ones : (q m : ℕ) → Subset q m → ones q ≤ ones m
 subset-ones q m h =
     let n : ℕ = q + m in
     omega (
@@ -72,6 +76,12 @@ crowded-meet a b q r qa rb h =
     let both = and-yes (member (some .0) q) (member (some .0) r) (some .2) in
     (some .0, both .0, both .1)
 
+-- every majority of a meets every majority of b, where enough servers are shared
+pub all-meet : {a b : ℕ} → Passes (allMeet a b) → MajoritiesMeet a b
+all-meet {a} {b} t q r x y =
+    let enough : leastShared (ones a) (ones b) ≤ ones (bitAnd a b) = at-most t in
+    crowded-meet a b q r (x .inside) (y .inside) (omega arith)
+
 pub same-set : (m : ℕ) → MajoritiesMeet m m
 same-set m q r x y = crowded-meet m m q r (x .inside) (y .inside) (omega (arith, ap ones (and-self m)))
 
@@ -87,6 +97,15 @@ one-apart {a} {b} t q r x y =
       ones-unlike n a b (fits n (omega arith)) (fits n (omega arith)),
       count-unlike n (λ s. member s a) (λ s. member s b),
     ))
+
+-- a set that may follow another by either rule
+pub may-follow : (rule : ℕ) {old new : ℕ} → Passes (mayFollow rule old new) → MajoritiesMeet old new
+may-follow zero t = one-apart t
+may-follow (suc k) t = all-meet t
+
+pub other-rule : (rule old new : ℕ) → rule ≢ 0 → mayFollow rule old new ≡ allMeet old new
+other-rule zero old new h = absurd (h refl)
+other-rule (suc k) old new h = refl
 
 -- ---- a decision at every member
 
@@ -130,14 +149,11 @@ most-map f x = record { by = x .by; majority = x .majority; all = λ s u. f s (x
 module _ (n m : ℕ) (width : m < 2 ^ n) (p : ℕ → Bool) where
   -- a member of m that passes is in what `&` leaves
   passing : (s : ℕ) → Member s m → Passes (p s) → Member s (bitAnd m (mask n p))
-  passing s u v =
-      subst T (sym (and-member s m (mask n p)))
-      (yes-and (member s m) (member s (mask n p)) u (mask-in n p s (member-pos s m u) (member-le n s width u) (v .yes)))
+  passing s u v = both-in m (mask n p) s u (mask-in n p s (member-pos s m u) (member-le n s width u) (v .yes))
 
   passed : (s : ℕ) → Member s (bitAnd m (mask n p)) → Member s m × Passes (p s)
   passed s t =
-      let (a, b) = and-yes (member s m) (member s (mask n p)) (subst T (and-member s m (mask n p)) t) in
-      (a, record { yes = in-mask n p s b })
+      let (a, b) = in-both m (mask n p) s t in (a, record { yes = in-mask n p s b })
 
   pub all-pass : Passes (allPass n p m) → All m (λ s. Passes (p s))
   all-pass t s u = passed s (subst (Member s) (sym (equal t)) u) .1

@@ -1,21 +1,22 @@
--- A mask and the test "is a member": the count of ones is the count of members, `&` and `^` work member by member,
+-- A mask and the test "is a member": the count of ones is the count of members, `&`, `|` and `^` work member by member,
 -- masks with the same members are equal, and each test on servers has its mask. Assumes nothing.
 use mathlib.Core.Path.{_≡_, refl, sym, ap, ap₂, subst, _∙_}
-use mathlib.Core.Bool.{Bool, true, false, and-assoc, _&&_}
-use mathlib.Core.Logic.{_⊎_, inl, inr}
-use Prim.Native.Nat.{ℕ, zero, suc, _+_, _-_, _*_, _/_, _%_, _^_, _≤_, _<_, min}
-use native.Mathlib.Nat.{mod-lt, mod-one, mod-eq-of-lt, div-eq-of-lt, div-lt-iff-lt-mul, eq-or-lt-of-le, zero-lt-suc, lt-of-lt-of-le, pow-suc}
+use mathlib.Core.Bool.{Bool, true, false, not, and-assoc, _&&_, _||_}
+use mathlib.Core.Logic.{_⊎_, inl, inr, ⊎-elim}
+use Prim.Native.Nat.{ℕ, zero, suc, _+_, _-_, _*_, _/_, _%_, _^_, _≤_, _<_, min, max}
+use native.Mathlib.Nat.{mod-lt, mod-one, mod-eq-of-lt, div-eq-of-lt, div-lt-iff-lt-mul, eq-or-lt-of-le, zero-lt-suc, lt-of-lt-of-le, pow-suc, div-add-mod'}
 use native.Mathlib.Decide.{decLe, decLt}
 use native.Mathlib.Numerals.{add-one, one-add, sub-one}
 use native.Mathlib.Omega.{arith}
-use lib.Dec.{T, eqb, ltb}
+use lib.Dec.{T, T-not, not-T, eqb, ltb}
 use borrow.Author.Tests.{eq-eqb, ne-eqb, lt-ltb, le-ltb}
 use lib.Arith.{bin-ind, digits-mod, digits-lt}
 use lib.Pow.{pow-pos, pow-mono, mod-pow-add, field, mod-mod-pow, high, low}
-use lib.Bits.{bitAnd, bitXor, differ, and-step, xor-step, and-shr, xor-shr, and-le-l, and-le-r, xor-lt}
+use lib.Bits.{bitAnd, bitOr, bitXor, differ, and-step, or-step, xor-step, and-shr, or-shr, xor-shr, and-le-l, and-le-r, xor-lt}
+use mir.Facts.{and-yes, yes-and, or-yes}
 use lib.Count.{ones, ones-step, ones-cat}
-use Rattle.members.specs.Members.{bit, member, Member, one, mask}
-use Rattle.members.proofs.Counting.{count, count-some, count-same, unlike}
+use Rattle.members.specs.Members.{bit, member, Member, Subset, without, one, mask}
+use Rattle.members.proofs.Counting.{count, count-some, count-same, count-mono, count-split, unlike}
 
 -- ---- a digit and a truth value
 
@@ -55,14 +56,22 @@ fits n {m} h = lt-of-lt-of-le (fits-itself m) (pow-mono h)
 
 -- ---- the ones of a mask are its members
 
-ones-low : (n m : ℕ) → ones (m % 2 ^ n) ≡ count n (λ s. member s m)
+-- how many of the servers 1 to n are in m
+abbrev pub counted : ℕ → ℕ → ℕ
+counted n m = count n (λ s. member s m)
+
+pub ones-low : (n m : ℕ) → ones (m % 2 ^ n) ≡ counted n m
 unfolding count ones
 ones-low zero m = ap ones (mod-one m)
 ones-low (suc k) m =
     ap ones (low-suc k m) ∙ ones-cat k (one (bit k m)) (m % 2 ^ k) (mod-lt m (pow-pos k)) ∙ ap₂ _+_ (ones-one (bit k m)) (ones-low k m)
 
-pub ones-count : (n : ℕ) {m : ℕ} → m < 2 ^ n → ones m ≡ count n (λ s. member s m)
+pub ones-count : (n : ℕ) {m : ℕ} → m < 2 ^ n → ones m ≡ counted n m
 ones-count n {m} h = ap ones (sym (mod-eq-of-lt h)) ∙ ones-low n m
+
+pub counted-le : (n m : ℕ) → counted n m ≤ ones m
+counted-le n m =
+    omega (arith, ones-low n m, ones-cat n (m / 2 ^ n) (m % 2 ^ n) (mod-lt m (pow-pos n)), ap ones (div-add-mod' m (2 ^ n)))
 
 pub ones-pos : (m : ℕ) → 0 < m → 0 < ones m
 ones-pos = bin-ind (λ m. 0 < m → 0 < ones m) (λ h. absurd (omega arith)) (λ m rest h. go m rest h (decLt 0 (m / 2)))
@@ -124,7 +133,7 @@ ext-low (suc k) a b e =
 pub ext : (a b : ℕ) → ((s : ℕ) → member s a ≡ member s b) → a ≡ b
 ext a b e = sym (mod-eq-of-lt (fits (a + b) (omega arith))) ∙ ext-low (a + b) a b e ∙ mod-eq-of-lt (fits (a + b) (omega arith))
 
--- ---- `&` and `^`, member by member
+-- ---- `&`, `|` and `^`, member by member
 
 -- op works digit by digit, as d does on digits and g on truth values
 bitwise : (op d : ℕ → ℕ → ℕ) (g : Bool → Bool → Bool)
@@ -151,6 +160,16 @@ pub and-member : (s a b : ℕ) → member s (bitAnd a b) ≡ (member s a && memb
 and-member zero a b = refl
 and-member (suc k) a b = bitwise bitAnd min _&&_ and-shr and-step both-digits k a b
 
+either-digit : (x y : Bool) → max (one x) (one y) ≡ one (x || y)
+either-digit true true = refl
+either-digit true false = refl
+either-digit false true = refl
+either-digit false false = refl
+
+or-member : (s a b : ℕ) → member s (bitOr a b) ≡ (member s a || member s b)
+or-member zero a b = refl
+or-member (suc k) a b = bitwise bitOr max _||_ or-shr or-step either-digit k a b
+
 unlike-digits : (x y : Bool) → differ (one x) (one y) ≡ one (unlike x y)
 unlike-digits true true = refl
 unlike-digits true false = refl
@@ -161,12 +180,72 @@ pub xor-member : (s a b : ℕ) → member s (bitXor a b) ≡ unlike (member s a)
 xor-member zero a b = refl
 xor-member (suc k) a b = bitwise bitXor differ unlike xor-shr xor-step unlike-digits k a b
 
+unlike-and : (x y : Bool) → unlike x (x && y) ≡ (x && not y)
+unlike-and true y = refl
+unlike-and false y = refl
+
+without-member : (s a b : ℕ) → member s (without a b) ≡ (member s a && not (member s b))
+without-member s a b =
+    xor-member s a (bitAnd a b) ∙ ap (unlike (member s a)) (and-member s a b) ∙ unlike-and (member s a) (member s b)
+
+or-in : (x y : Bool) → T x ⊎ T y → T (x || y)
+or-in true y h = tt
+or-in false y h = ⊎-elim absurd (λ t. t) h
+
+-- the same as statements
+module _ (a b s : ℕ) where
+  pub in-both : Member s (bitAnd a b) → Member s a × Member s b
+  in-both t = and-yes (member s a) (member s b) (subst T (and-member s a b) t)
+
+  pub both-in : Member s a → Member s b → Member s (bitAnd a b)
+  both-in u v = subst T (sym (and-member s a b)) (yes-and (member s a) (member s b) u v)
+
+  pub in-either : Member s (bitOr a b) → Member s a ⊎ Member s b
+  in-either t = or-yes (member s a) (member s b) (subst T (or-member s a b) t)
+
+  pub either-in : Member s a ⊎ Member s b → Member s (bitOr a b)
+  either-in h = subst T (sym (or-member s a b)) (or-in (member s a) (member s b) h)
+
+  pub in-without : Member s (without a b) → Member s a × (Member s b → ⊥)
+  in-without t =
+      let (u, v) = and-yes (member s a) (not (member s b)) (subst T (without-member s a b) t) in
+      (u, T-not (member s b) v)
+
+  pub without-in : Member s a → (Member s b → ⊥) → Member s (without a b)
+  without-in u v =
+      subst T (sym (without-member s a b)) (yes-and (member s a) (not (member s b)) u (not-T (member s b) v))
+
 -- the shared servers of two sets, and those of one set alone
 pub ones-shared : (n a b : ℕ) → a < 2 ^ n → ones (bitAnd a b) ≡ count n (λ s. member s a && member s b)
 ones-shared n a b h = ones-count n (omega (arith, and-le-l a b, h)) ∙ count-same n _ _ (λ k l. and-member (suc k) a b)
 
 pub ones-unlike : (n a b : ℕ) → a < 2 ^ n → b < 2 ^ n → ones (bitXor a b) ≡ count n (λ s. unlike (member s a) (member s b))
 ones-unlike n a b h l = ones-count n (xor-lt n a b h l) ∙ count-same n _ _ (λ k m. xor-member (suc k) a b)
+
+pub counted-mono : (n q m : ℕ) → Subset q m → counted n q ≤ counted n m
+counted-mono n q m h = count-mono n (λ s. member s q) (λ s. member s m) h
+
+pub counted-split : (n m q : ℕ) → counted n m ≡ counted n (bitAnd m q) + counted n (without m q)
+counted-split n m q =
+    omega (
+      arith,
+      count-split n (λ s. member s m) (λ s. member s q),
+      count-same n (λ s. member s (bitAnd m q)) (λ s. member s m && member s q) (λ k l. and-member (suc k) m q),
+      count-same n (λ s. member s (without m q)) (λ s. member s m && not (member s q)) (λ k l. without-member (suc k) m q),
+    )
+
+pub without-lt : (n m q : ℕ) → m < 2 ^ n → without m q < 2 ^ n
+without-lt n m q w = xor-lt n m (bitAnd m q) w (omega (arith, and-le-l m q))
+
+pub ones-split : (m q : ℕ) → ones m ≡ ones (bitAnd m q) + ones (without m q)
+ones-split m q =
+    omega (
+      arith,
+      counted-split m m q,
+      ones-count m {m = m} (fits-itself m),
+      ones-count m {m = bitAnd m q} (fits m (and-le-l m q)),
+      ones-count m {m = without m q} (without-lt m m q (fits-itself m)),
+    )
 
 -- ---- the mask of the servers 1 to n that pass a test
 

@@ -1,14 +1,6 @@
--- What the theory says of sets: that majorities meet, and what holds of the members of a set. Assumes nothing.
+-- What the theory says of the members of a set. Assumes nothing.
 use Prim.Native.Nat.{ℕ}
 use Rattle.members.specs.Members.{Member, Majority}
-
--- some server is in both
-abbrev pub Meet : ℕ → ℕ → Type 0
-Meet q r = (s : ℕ) × Member s q × Member s r
-
--- every majority of a meets every majority of b
-abbrev pub MajoritiesMeet : ℕ → ℕ → Type 0
-MajoritiesMeet a b = (q r : ℕ) → Majority q a → Majority r b → Meet q r
 
 -- P holds of every member of q
 abbrev pub All : ℕ → (ℕ → Type 0) → Type 0

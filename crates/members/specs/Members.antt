@@ -1,7 +1,7 @@
 -- Sets of servers as numbers: bit k stands for server k + 1, and `ones m` is how many servers m has. Assumes nothing.
 -- (As in every file: `T b` says that the test b passes; `abbrev` and `unfoldable` say how proofs see a definition, not what it says; "assumes
 -- nothing" is: no axiom.)
-use mathlib.Core.Bool.{Bool, true, false, _&&_}
+use mathlib.Core.Bool.{Bool, true, false, cond, _&&_}
 use Prim.Native.Nat.{ℕ, zero, suc, _+_, _*_, _/_, _%_, _^_, _<_}
 use lib.Dec.{T, ltb, eqb}
 use lib.Bits.{bitAnd, bitXor}
@@ -25,6 +25,10 @@ Member s m = T (member s m)
 -- m is not empty and has servers 1 to n only
 abbrev pub within : ℕ → ℕ → Bool
 within m n = ltb 0 m && ltb m (2 ^ n)
+
+-- the servers of m that are not in q
+abbrev pub without : ℕ → ℕ → ℕ
+without m q = bitXor m (bitAnd m q)
 
 -- exactly one server is in one of the two sets and not in the other
 abbrev pub oneApart : ℕ → ℕ → Bool
@@ -77,3 +81,14 @@ somePass n p q = ltb 0 (passing n p q)
 -- the members of m that pass p are a majority of m
 abbrev pub mostPass : ℕ → (ℕ → Bool) → ℕ → Bool
 mostPass n p m = majority (passing n p m) m
+
+-- ---- the lowest number that passes a test
+
+-- the first of the n numbers from s on that passes p, and 0 where none does; what `let` names is tried only where s fails
+unfoldable pub lowestFrom : ℕ → ℕ → (ℕ → Bool) → ℕ
+lowestFrom zero s p = 0
+lowestFrom (suc n) s p = let later = lowestFrom n (suc s) p in cond (p s) s later
+
+-- the lowest number from 1 to n that passes p, and 0 where none does
+abbrev pub lowestUpTo : ℕ → (ℕ → Bool) → ℕ
+lowestUpTo n p = lowestFrom n 1 p

@@ -1,7 +1,10 @@
 // Sets of servers as masks: bit k stands for server k + 1.
+pub mod apart;
+
 ghost use mathlib.Core.Path.{_≡_};
 ghost use Prim.Native.Nat.{_^_, _<_};
 ghost use Rattle.members.specs.Members.{member, majority, oneApart, within, withNext};
+ghost use Rattle.members.specs.Rules.{allMeet, mayFollow};
 
 // Server s is in m.
 pub fn is_member(s: u8, m: u16) -> bool
@@ -32,6 +35,25 @@ pub fn is_majority(q: u16, m: u16) -> bool
     ensures { λ r. ⌜ r ≡ majority q m ⌝ }
 {
     q & m == q && u16::count_ones(m) < 2 * u16::count_ones(q)
+}
+
+// Every majority of a meets every majority of b: the sets share enough servers.
+fn all_meet(a: u16, b: u16) -> bool
+    requires { ⌜ (0 < a) × (0 < b) ⌝ }
+    ensures { λ r. ⌜ r ≡ allMeet a b ⌝ }
+{
+    (u16::count_ones(a) - 1) / 2 + (u16::count_ones(b) - 1) / 2 + 1 <= u16::count_ones(a & b)
+}
+
+// The set `new` may follow `old` under rule 1, which is the number 0, or rule 2.
+pub fn may_follow(rule: u32, old: u16, new: u16) -> bool
+    requires { ⌜ (0 < old) × (0 < new) ⌝ }
+    ensures { λ r. ⌜ r ≡ mayFollow rule old new ⌝ }
+{
+    if rule == 0 {
+        return is_one_apart(old, new);
+    }
+    all_meet(old, new)
 }
 
 // The set m of servers 1 to k, and server k + 1 if b: how a loop over the servers builds the set of those that pass a test.

@@ -1,5 +1,5 @@
 -- Kind by kind: no refusal of its own holds exactly where the paper's action is allowed and not narrowed. Assumes nothing.
-use Prim.Native.Nat.{ℕ, _≤_, _<_, _^_}
+use Prim.Native.Nat.{ℕ, zero, suc, _≤_, _<_, _^_}
 use mathlib.Core.Bool.{not, Bool}
 use mathlib.Core.List.{[], _∷_}
 use mathlib.Core.Logic.{_⊎_, inl, inr, ⊎-elim, _≢_, _↔_, Iff·trans}
@@ -11,9 +11,11 @@ use Rattle.words.specs.Refusal.{refuse}
 use Rattle.words.proofs.Tests.{Passes, Fails, either, first-of, second-of, neither, refuted, unrefuted, contradiction, fails, both-refuted, equal, less, at-most, above, is-equal, is-less, both, together, one-refuted, unequal, not-less, is-at-most}
 use Rattle.words.proofs.RefusalLaws.{NoneHold, none-before}
 use Rattle.members.specs.Members.{Member, member, within, majority, mostPass}
+use Rattle.members.specs.Rules.{MajoritiesMeet, mayFollow}
 use Rattle.members.proofs.Said.{All}
 use Rattle.members.proofs.Masks.{member-pos}
-use Rattle.members.proofs.Majorities.{majority-is, is-majority, one-apart, most-map, pass-all, none-passes, most-pass, pass-most}
+use Rattle.members.proofs.Majorities.{majority-is, is-majority, all-meet, one-apart, most-map, pass-all, none-passes, most-pass, pass-most}
+use Rattle.members.proofs.Pairs.{meet-all}
 use Rattle.members.proofs.Meaning.{within-is}
 use Rattle.algorithm.specs.Table.{Log, Server, Table, count, server, primary, secondary, termAt, positions, last, prefix, mark, ceiling, held}
 use Rattle.algorithm.specs.Actions.{sendRefusals, spreadRefusals, writeRefusals, joins, fetchRefusals, rollBackRefusals, largerTerm, newerConfig, logAhead, electRefusals, sameConfig, sameTerm, someMarked, holdsCommitted, reconfigureRefusals, supportsAt, commitRefusals, entryRefusals, markedOtherwise, lacksEntry}
@@ -22,9 +24,9 @@ use Rattle.algorithm.proofs.Sound.{SoundTable, here-sound, SoundServer}
 use Rattle.algorithm.proofs.Logs.{HasEntry}
 use Rattle.algorithm.proofs.Seen.{within-width}
 use Rattle.algorithm.proofs.Taken.{is-held, some-marked, holds-marked, mark-range, can-commit}
-use Rattle.paper.specs.Paper.{at, IsPrefix, SendConfig, UpdateTerms, GetEntries, RollbackEntries, ClientRequest, Set, _∈_, OfServers, Quorums, LogGeq, IsCommitted, C, NotNewer, Q1, Q2, P1b, Reconfig, BecomeLeader, CommitEntry}
+use Rattle.paper.specs.Paper.{at, IsPrefix, SendConfig, UpdateTerms, GetEntries, RollbackEntries, ClientRequest, Set, _∈_, OfServers, Quorums, QuorumsOverlap, LogGeq, IsCommitted, C, NotNewer, Q1, Q2, P1b, Reconfig, BecomeLeader, CommitEntry}
 use Rattle.paper.specs.Shown.{logShown, setShown, shown}
-use Rattle.paper.specs.Narrowings.{MarkedOnce, OwnCommit}
+use Rattle.paper.specs.Narrowings.{MarkedOnce, SingleChange, OwnCommit}
 use Rattle.paper.proofs.Figures.{none-of, role-primary, role-secondary, later-is, length-shown, at-shown, last-shown, empty-shown, ends, term-order, prefix-is, later-not, not-newer-is, Exactly, AllFail, Allows, in-log, marked-some, marked-holds, none-some}
 use Rattle.paper.proofs.Quorum.{most-of, of-most, quorum-is, is-quorum, overlap, apart-is}
 
@@ -204,6 +206,18 @@ module _ (t : Table) (sound : SoundTable t) (i : ℕ) where
             → Passes (mostPass (count t) p (a .config .set))
         quorum-passes p Q quorum all = pass-most (count t) (a .config .set) set-width p (most-of (shown t) (a .config .set) set-width Q quorum all)
 
+        overlaps : MajoritiesMeet (a .config .set) q ↔ QuorumsOverlap (shown t) (setShown (a .config .set)) (setShown q)
+        overlaps = overlap (shown t) (a .config .set) q set-width width
+
+        some : {m : ℕ} → Passes (within m (count t)) → 0 < m
+        some {m} w = less (both {a = ltb 0 m} w .0)
+
+        -- a set may follow another where quorums overlap and, under rule 1, one server is added or removed
+        follows : (R : ℕ) → Passes (mayFollow R (a .config .set) q)
+            ↔ (QuorumsOverlap (shown t) (setShown (a .config .set)) (setShown q) × SingleChange R (shown t) i (setShown q))
+        follows zero = (λ h. (overlaps .0 (one-apart h), apart-is (a .config .set) q .0 h), λ (_, single). apart-is (a .config .set) q .1 single)
+        follows (suc k) = (λ h. (overlaps .0 (all-meet h), tt), λ (over, _). meet-all (some (whole .config .set)) (some sets) (overlaps .1 over))
+
         there : NoneHold (reconfigureRefusals t i q) → Allows t (Reconfig i (setShown q))
         there none =
             let leads : a .role ≡ 1 = equal (refuted (none 6)) in
@@ -221,14 +235,14 @@ module _ (t : Table) (sound : SoundTable t) (i : ℕ) where
             let (low, high) = mark-range sound p (omega arith) in
             let (same, holds) = both (all j v) in
             (in-log t j p (a .term) .0 (holds-marked t (a .term) (server t j .log) positions holds p low high (marked ∙ z)), equal same) in
-            let overlaps = overlap (shown t) (a .config .set) q set-width width .0 (one-apart (refuted (none 13))) in
+            let (over, single) = follows (t .rule) .0 (refuted (none 13)) in
             let of : OfServers (shown t) (setShown q) = λ x u. (member-pos x q u, within-is sets .all x u) in (
-              (of, role-primary whole .0 (refuted (none 6)), (first, second, (Q, quorum, (inr own, kept))), overlaps),
-              (omega (arith, whole .config .version), in-set .yes, apart-is (a .config .set) q .0 (refuted (none 13)), own),
+              (of, role-primary whole .0 (refuted (none 6)), (first, second, (Q, quorum, (inr own, kept))), over),
+              (omega (arith, whole .config .version), in-set .yes, single, own),
             )
 
         back : Allows t (Reconfig i (setShown q)) → AllFail (reconfigureRefusals t i q)
-        back ((_, leads, ((Q, quorum, all), (Q′, quorum′, all′), (R, quorum″, (_, kept))), _), (below, self, apart, (p, u, ((marked, o), z)))) =
+        back ((_, leads, ((Q, quorum, all), (Q′, quorum′, all′), (R, quorum″, (_, kept))), over), (below, self, single, (p, u, ((marked, o), z)))) =
             let positive : 0 < a .term = omega arith in
             let last-version : Fails (eqb (a .config .version) ceiling) = fails (λ y. let top : a .config .version ≡ ceiling = equal y in omega arith) in
             let first = quorum-passes (sameConfig t i) Q quorum (λ j v. let (e, f) = all j v in together (is-equal e) (is-equal f)) in
@@ -238,5 +252,5 @@ module _ (t : Table) (sound : SoundTable t) (i : ℕ) where
             (λ r e. in-log t j r (a .term) .1 (kept r (a .term) ((e, positive), refl) j v .0)))) in
             let own = unrefuted (together (marked-some (t .marks) (a .term) p positive (marked ∙ z)) third) in
             let stays : Fails (not (member i q)) = unrefuted {b = member i q} (record { yes = self }) in
-            let set-fits = unrefuted (apart-is (a .config .set) q .1 apart) in
+            let set-fits = unrefuted (follows (t .rule) .1 (over, single)) in
             (unrefuted (role-primary whole .1 leads), (last-version, (stays, (set-fits, (unrefuted first, (unrefuted second, (own, tt)))))))

@@ -1,5 +1,5 @@
 -- Two states that are the same at every server: what numbers beyond the servers have does not matter to Algorithm 2. Assumes nothing.
-use Prim.Native.Nat.{ℕ, _+_}
+use Prim.Native.Nat.{ℕ, zero, suc, _+_}
 use mathlib.Core.Bool.{Bool, true, false}
 use mathlib.Core.Logic.{_⊎_, inl, inr, ⊎-elim, _↔_, Iff·rfl, Iff·symm, Iff·trans}
 use mathlib.Core.Path.{_≡_, refl, sym, ap, _∙_, subst}
@@ -8,7 +8,7 @@ use native.Mathlib.Omega.{arith}
 use lib.Dec.{T}
 use lib.ListN.{length}
 use Rattle.paper.specs.Paper.{Set, _∈_, State, IsServer, OfServers, Quorums, at, IsCommitted, CommittedAt, Q1, Q2, P1a, P1b, P1, Same, Sets, SetsAll, SetsApart, SameRoles, SameConfigs, SameCommitted, Action, Reconfig, BecomeLeader, CommitEntry, SendConfig, UpdateTerms, GetEntries, RollbackEntries, ClientRequest, Requires, Assigns, Step}
-use Rattle.paper.specs.Narrowings.{Narrowed}
+use Rattle.paper.specs.Narrowings.{SingleChange, Narrowed}
 use Rattle.paper.specs.Runs.{Named, OnServers, AlikeAt, Alike}
 
 -- ---- what is allowed
@@ -79,17 +79,21 @@ module _ (s z : State) (near : AlikeAt (IsServer z) z s) (sets-of : (i : ℕ) �
     rw (near .log i h, near .term i h) at (is-committed (length (s .log i)) (s .term i) Q (member-server i h Q q) all),
   )
 
+  near-single : (R : ℕ) (i : ℕ) → IsServer z i → (new : Set) → SingleChange R s i new → SingleChange R z i new
+  near-single zero i h new single = rw (near .config i h) at single
+  near-single (suc k) i h new single = single
+
   -- what is not forbidden in s is not in z
-  pub near-narrowed : (a : Action) → OnServers z a → Narrowed s a → Narrowed z a
-  near-narrowed (Reconfig i new) h (top, self, apart, (p, u, c)) =
-      (omega (arith, near .configVersion i h), self, rw (near .config i h) at apart, (p, u, own-commit i h p u c))
-  near-narrowed (SendConfig i j) (h, g) leads = sym (near .state i h) ∙ leads
-  near-narrowed (BecomeLeader i Q) h top = omega (arith, near .term i h)
-  near-narrowed (UpdateTerms i j) h n = n
-  near-narrowed (ClientRequest i) h room = rw (near .log i h) at room
-  near-narrowed (GetEntries i j) h n = n
-  near-narrowed (RollbackEntries i j) h n = n
-  near-narrowed (CommitEntry i Q) h (own, once) = (
+  pub near-narrowed : (R : ℕ) (a : Action) → OnServers z a → Narrowed R s a → Narrowed R z a
+  near-narrowed R (Reconfig i new) h (top, self, single, (p, u, c)) =
+      (omega (arith, near .configVersion i h), self, near-single R i h new single, (p, u, own-commit i h p u c))
+  near-narrowed R (SendConfig i j) (h, g) leads = sym (near .state i h) ∙ leads
+  near-narrowed R (BecomeLeader i Q) h top = omega (arith, near .term i h)
+  near-narrowed R (UpdateTerms i j) h n = n
+  near-narrowed R (ClientRequest i) h room = rw (near .log i h) at room
+  near-narrowed R (GetEntries i j) h n = n
+  near-narrowed R (RollbackEntries i j) h n = n
+  near-narrowed R (CommitEntry i Q) h (own, once) = (
     rw (near .log i h, near .term i h) at own,
     λ u c. once u (near .committed (length (s .log i)) u .1 (rw (near .log i h) c)) ∙ near .term i h,
   )

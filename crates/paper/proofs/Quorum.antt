@@ -10,7 +10,8 @@ use lib.Bits.{bitAnd, and-le-r}
 use lib.Count.{ones}
 use Rattle.words.proofs.Tests.{Passes, both, fails, fails-false, equal}
 use Rattle.members.specs.Members.{one, member, within, oneApart, Majority, mask}
-use Rattle.members.proofs.Said.{MajoritiesMeet, Most}
+use Rattle.members.specs.Rules.{MajoritiesMeet}
+use Rattle.members.proofs.Said.{Most}
 use Rattle.members.proofs.Counting.{count, unlike}
 use Rattle.members.proofs.Masks.{ones-count, ones-mask, mask-lt, member-mask, mask-in, in-mask, member-le, member-above}
 use Rattle.members.proofs.Majorities.{is-majority, same-set}

@@ -2,7 +2,7 @@
 -- predicates); the last is not on its list and stands in its action 8. In a table that a run reaches, 2 and the last ask nothing
 -- (proofs/Reached.antt).
 -- Assumes nothing.
-use Prim.Native.Nat.{ℕ, _<_}
+use Prim.Native.Nat.{ℕ, zero, suc, _<_}
 use mathlib.Core.Logic.{_≢_}
 use mathlib.Core.Path.{_≡_}
 use lib.ListN.{length}
@@ -24,9 +24,14 @@ LogCeiling s i = length (s .log i) < 64
 abbrev pub MarkedOnce : State → ℕ → Type 0
 MarkedOnce s i = (u : ℕ) → s .committed (length (s .log i)) u → u ≡ s .term i
 
--- 3, one server is added or removed: there is one server in which the sets differ, and no other
+-- 3: one server is added or removed, so that there is one server in which the sets differ, and no other
 abbrev pub OneServer : State → ℕ → Set → Type 0
 OneServer s i new = (x : ℕ) × (s .config i x ≢ new x) × ((y : ℕ) → s .config i y ≢ new y → y ≡ x)
+
+-- that is asked under rule 1, which has the number 0; under rule 2 the overlap that line 19 asks for is enough
+abbrev pub SingleChange : ℕ → State → ℕ → Set → Type 0
+SingleChange zero s i new = OneServer s i new
+SingleChange (suc k) s i new = Unit {0}
 
 -- 4, the leader is in its own new set
 abbrev pub LeaderStays : ℕ → Set → Type 0
@@ -44,13 +49,13 @@ SenderLeads s i = s .state i ≡ Primary
 abbrev pub OwnEntry : State → ℕ → Type 0
 OwnEntry s i = at (s .log i) (length (s .log i)) ≡ s .term i
 
--- which of them stand above which action
-abbrev pub Narrowed : State → Action → Type 0
-Narrowed s (Reconfig i new) = VersionCeiling s i × LeaderStays i new × OneServer s i new × OwnCommit s i
-Narrowed s (SendConfig i j) = SenderLeads s i
-Narrowed s (BecomeLeader i Q) = TermCeiling s i
-Narrowed s (UpdateTerms i j) = Unit {0}
-Narrowed s (ClientRequest i) = LogCeiling s i
-Narrowed s (GetEntries i j) = Unit {0}
-Narrowed s (RollbackEntries i j) = Unit {0}
-Narrowed s (CommitEntry i Q) = OwnEntry s i × MarkedOnce s i
+-- which of them stand above which action, under the rule R
+abbrev pub Narrowed : ℕ → State → Action → Type 0
+Narrowed R s (Reconfig i new) = VersionCeiling s i × LeaderStays i new × SingleChange R s i new × OwnCommit s i
+Narrowed R s (SendConfig i j) = SenderLeads s i
+Narrowed R s (BecomeLeader i Q) = TermCeiling s i
+Narrowed R s (UpdateTerms i j) = Unit {0}
+Narrowed R s (ClientRequest i) = LogCeiling s i
+Narrowed R s (GetEntries i j) = Unit {0}
+Narrowed R s (RollbackEntries i j) = Unit {0}
+Narrowed R s (CommitEntry i Q) = OwnEntry s i × MarkedOnce s i

@@ -44,7 +44,7 @@ pub data Steps : State → State → Type 1 where
 abbrev pub Commits : Action → Type 0
 Commits a = (i : ℕ) × (Q : Set) × (a ≡ CommitEntry i Q)
 
--- steps, each by servers, and not forbidden unless it is a commit: the narrowings of a commit ask nothing in a state that is reached
-pub data NarrowSteps : State → State → Type 1 where
-  none : {s : State} → NarrowSteps s s
-  then : {s s′ s″ : State} (a : Action) → OnServers s a → Narrowed s a ⊎ Commits a → Step s a s′ → NarrowSteps s′ s″ → NarrowSteps s s″
+-- steps under the rule R, each by servers, and not forbidden unless it is a commit: the narrowings of a commit ask nothing in a state that is reached
+pub data NarrowSteps (R : ℕ) : State → State → Type 1 where
+  none : {s : State} → NarrowSteps R s s
+  then : {s s′ s″ : State} (a : Action) → OnServers s a → Narrowed R s a ⊎ Commits a → Step s a s′ → NarrowSteps R s′ s″ → NarrowSteps R s s″

@@ -7,7 +7,7 @@ use mathlib.Core.List.{List, [], _∷_, _++_, map, flatten}
 use lib.Dec.{leb, eqb}
 use lib.ListN.{length, getD, take, length-append, List·getD-map}
 use lib.Seq.{take-suc, take-length, take-all}
-use borrow.Author.Tests.{le-ltb, eq-eqb}
+use borrow.Author.Tests.{le-ltb, le-leb, eq-eqb}
 use Rattle.words.specs.Refusal.{first}
 use Rattle.words.proofs.Tests.{Passes, together, is-equal, is-at-most, is-true}
 use Rattle.algorithm.specs.Table.{Server, Table, absent, count, ceiling, positions, soundServer, broken, trimmed, soundCount, withServers, withMarks}
@@ -143,6 +143,7 @@ module _ (t : Table) (h : broken t ≡ false) where
         rw (
           eq-eqb (length slice) tableBytes e,
           le-ltb (length im) 8 (omega (arith, long, length-image t)),
+          le-leb (t .rule) 1 (rules .rule),
           is-true (soundCount (countIn im)) (some .yes),
           is-true (laidOut im) (laid-out .yes),
           is-true (soundBodies im) (all-sound .yes),

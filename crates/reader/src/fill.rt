@@ -77,6 +77,17 @@ fn put_marks(t: &mut [u8], b: &[u8])
     }
 }
 
+// All but the servers, of which nothing is known then.
+fn fill_unread(t: &mut [u8], image: &[u8])
+    requires { ⌜ length (now t) ≡ tableBytes ⌝ }
+    requires { ⌜ countIn (now image) ≤ mostServers ⌝ }
+    requires { ⌜ Named (now image) ⌝ }
+    ensures { λ _. ⌜ Holds (now (t .exit)) (unread (now (image .entry))) ⌝ }
+{
+    fill_blank(t, image[4], image[6]);
+    put_marks(t, body_of(image, 0));
+}
+
 fn fill_servers(t: &mut [u8], image: &[u8])
     requires { ⌜ Holds (now t) (unread (now image)) ⌝ }
     requires { ⌜ Named (now image) ⌝ }
@@ -96,7 +107,6 @@ pub fn fill(t: &mut [u8], image: &[u8])
     requires { ⌜ Named (now image) ⌝ }
     ensures { λ _. ⌜ Holds (now (t .exit)) (readTable (now (image .entry))) ⌝ }
 {
-    fill_blank(t, image[4]);
-    put_marks(t, body_of(image, 0));
+    fill_unread(t, image);
     fill_servers(t, image);
 }

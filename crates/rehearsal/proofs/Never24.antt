@@ -3,22 +3,23 @@ use Prim.Native.Nat.{ℕ, zero, suc, _+_, _-_, _*_, _/_, _%_, _<_}
 use native.Mathlib.Decide.{decLe, decLt}
 use native.Mathlib.Omega.{arith}
 use mathlib.Core.Bool.{Bool, true, false, cond, not, _&&_, and-assoc}
-use mathlib.Core.List.{List, [], _∷_, _++_, append-assoc, append-nil, flatten}
+use mathlib.Core.List.{List, [], _∷_, _++_, append-assoc, append-nil, flatten, map-append}
 use mathlib.Core.Logic.{_≢_}
 use mathlib.Core.Path.{_≡_, refl, sym, ap, _∙_}
-use lib.Dec.{T, eqb}
+use lib.Dec.{T, eqb, ltb}
 use lib.ListN.{length, getD, take, drop}
 use lib.Seq.{getD-append-add, take-at}
 use borrow.Author.Tests.{lt-ltb, le-ltb, ne-eqb}
 use mir.Facts.{and-yes, eqb-no}
+use Rattle.words.specs.Refusal.{Shown, Answer}
 use Rattle.words.proofs.Choice.{cond-elim}
 use Rattle.algorithm.specs.Table.{Table, Server, broken, fresh}
-use Rattle.algorithm.specs.Run.{pieces, pieceCount, Ran, play, run}
+use Rattle.algorithm.specs.Run.{numbers, pieces, pieceCount, Ran, play, run}
 use Rattle.algorithm.proofs.Runs.{play-sound, play-append}
 use Rattle.algorithm.proofs.Demands.{not-given-24}
 use Rattle.image.specs.Image.{image}
 use Rattle.buffer.specs.Buffer.{text, digits, decimal, field, fields, Wrote}
-use Rattle.report.specs.Lines.{reply, repliedLine, cutLine, tooLongLine, letter, shownRow, rowLine, marksLine, numbered, repliedLines, rowLines, tableLines, wholeActions, cutLines, playedLines}
+use Rattle.report.specs.Lines.{pair, reply, repliedLine, cutLine, tooLongLine, letter, shownRow, rowLine, marksLine, numbered, repliedLines, rowLines, tableLines, wholeActions, cutLines, playedLines}
 use Rattle.report.proofs.OrderLaws.{flatten-append}
 use Rattle.rehearsal.specs.Programs.{longest, inputLines, printed}
 use Rattle.rehearsal.proofs.PrintedTheorems.{image-lines}
@@ -111,16 +112,16 @@ table-plain t =
 
 -- ---- replies
 
--- the number that digits say, up to the end of the line
+-- the number that digits say, up to what is none: a space, or the end of the line
 unfoldable value : ℕ → List ℕ → ℕ
 value a [] = a
-value a (c ∷ l) = cond (eqb c 10) a (value (10 * a + (c - 48)) l)
+value a (c ∷ l) = cond (ltb c 48) a (value (10 * a + (c - 48)) l)
 
 value-digit : (a d n : ℕ) (l : List ℕ) → d < 10 → 10 * a + d ≡ n → value a ((48 + d) ∷ l) ≡ value n l
 unfolding value
 value-digit a d n l h e =
     let same : 10 * a + (48 + d - 48) ≡ n = omega arith in
-    rw (ne-eqb (48 + d) 10 (omega arith)) (ap (λ (a : ℕ). value a l) same)
+    rw (le-ltb (48 + d) 48 (omega arith)) (ap (λ (a : ℕ). value a l) same)
 
 value-digits : (k n : ℕ) (l : List ℕ) → n < k → value 0 (digits k n ++ l) ≡ value n l
 unfolding digits
@@ -133,17 +134,33 @@ value-digits (suc k) n l h =
           (value-digits k (n / 10) ((48 + n % 10) ∷ l) (omega arith) ∙ value-digit (n / 10) (n % 10) n l (omega arith) (omega arith))
     ]
 
-reply-without : (r : ℕ) → r ≢ 24 → (m : List ℕ) → Without m → Without (reply r ++ (text "\n" ++ m))
-unfolding reply field decimal plain Without value
-reply-without zero ne m h = before (text " taken\n") m refl h
-reply-without (suc r) ne m h =
-    let rest : List ℕ = decimal (suc r) ++ (text "\n" ++ m) in
+-- what stands behind the number of a refusal is a space, or the end of the line
+behind : (s : Shown) (n : ℕ) (m : List ℕ) → value n (pair s ++ (text "\n" ++ m)) ≡ n
+unfolding pair fields field value
+behind s n m = cond-elim (λ (l : List ℕ). value n (l ++ (text "\n" ++ m)) ≡ n) (eqb (s .old) 0) (λ _. refl) (λ _. refl)
+
+pair-plain : (s : Shown) → plain (pair s) ≡ true
+unfolding pair plain
+pair-plain s = cond-elim (λ (l : List ℕ). plain l ≡ true) (eqb (s .old) 0) (λ _. refl) (λ _. fields-plain (s .old ∷ s .new ∷ []))
+
+refused-without : (n : ℕ) (s : Shown) → n ≢ 24 → (m : List ℕ) → Without m → Without (text " refused" ++ field n ++ pair s ++ (text "\n" ++ m))
+unfolding field decimal plain Without value
+refused-without n s ne m h =
+    let line : List ℕ = text "\n" ++ m in
+    let rest : List ℕ = (decimal n ++ pair s) ++ line in
+    let parts : rest ≡ decimal n ++ (pair s ++ line) = append-assoc (decimal n) (pair s) line in
     before (text " re") (text "fused " ++ rest) refl (
-      λ y e. ne (sym (value-digits (suc (suc r)) (suc r) (text "\n" ++ m) (omega arith)) ∙ ap (λ (l : List ℕ). value 0 (drop 6 l)) e),
-      before (text "used ") rest refl (before (decimal (suc r)) (text "\n" ++ m) (decimal-plain (suc r)) (before (text "\n") m refl h)),
+      λ y e. ne (sym (ap (value 0) parts ∙ value-digits (suc n) n (pair s ++ line) (omega arith) ∙ behind s n m) ∙ ap (λ (l : List ℕ). value 0 (drop 6 l)) e),
+      before (text "used ") rest refl
+          (rw parts (before (decimal n) (pair s ++ line) (decimal-plain n) (before (pair s) line (pair-plain s) (before (text "\n") m refl h)))),
     )
 
-replies-without : (k : ℕ) (rs : List ℕ) → ((j : ℕ) → getD rs j 0 ≢ 24) → (m : List ℕ) → Without m → Without (flatten (numbered repliedLine k rs) ++ m)
+reply-without : (a : Answer) → a .number ≢ 24 → (m : List ℕ) → Without m → Without (reply a ++ (text "\n" ++ m))
+unfolding reply plain
+reply-without a ne m h =
+    cond-elim (λ (l : List ℕ). Without (l ++ (text "\n" ++ m))) (eqb (a .number) 0) (λ _. before (text " taken\n") m refl h) (λ _. refused-without (a .number) (a .shown) ne m h)
+
+replies-without : (k : ℕ) (rs : List Answer) → ((j : ℕ) → getD (numbers rs) j 0 ≢ 24) → (m : List ℕ) → Without m → Without (flatten (numbered repliedLine k rs) ++ m)
 unfolding numbered flatten repliedLine
 replies-without k [] ne m h = h
 replies-without k (r ∷ rs) ne m h =
@@ -158,7 +175,7 @@ plain-without l h = rw append-nil at (before l [] h tt)
 
 -- ---- the whole output
 
-module _ (t : Table) (p : List ℕ) (ne : (j : ℕ) → getD (run t (wholeActions p) .replies) j 0 ≢ 24) where
+module _ (t : Table) (p : List ℕ) (ne : (j : ℕ) → getD (numbers (run t (wholeActions p) .replies)) j 0 ≢ 24) where
   played-without : Without (flatten (playedLines t p))
   unfolding playedLines
   played-without =
@@ -177,21 +194,22 @@ module _ (t : Table) (p : List ℕ) (ne : (j : ℕ) → getD (run t (wholeAction
 
 -- Actions on a fresh table, the image of what they leave, and any bytes behind it, which `rehearse` plays: nowhere in what it prints does
 -- `refused 24` stand. With no actions it is the image of a fresh table.
-module _ (n m : ℕ) (acts : List (List ℕ)) (sound : broken (fresh n m) ≡ false) where
+module _ (n m R : ℕ) (acts : List (List ℕ)) (sound : broken (fresh n m R) ≡ false) where
   abbrev pub left : Table
-  left = play (fresh n m) acts .table
+  left = play (fresh n m R) acts .table
 
-  replies-24 : (q : List (List ℕ)) (j : ℕ) → getD (play left q .replies) j 0 ≢ 24
+  replies-24 : (q : List (List ℕ)) (j : ℕ) → getD (numbers (play left q .replies)) j 0 ≢ 24
   replies-24 q j e =
-      let first = play (fresh n m) acts .replies in
-      not-given-24 n m (acts ++ q) (length first + j)
-      (ap (λ (r : Ran). getD (r .replies) (length first + j) 0) (play-append (fresh n m) acts q) ∙ getD-append-add first (play left q .replies) j 0 ∙ e)
+      let first = numbers (play (fresh n m R) acts .replies) in
+      not-given-24 n m R (acts ++ q) (length first + j)
+      (ap (λ (r : Ran). getD (numbers (r .replies)) (length first + j) 0) (play-append (fresh n m R) acts q)
+      ∙ rw (map-append (λ (a : Answer). a .number) (play (fresh n m R) acts .replies) (play left q .replies)) (getD-append-add first (numbers (play left q .replies)) j 0) ∙ e)
 
   pub never-printed : (p x y : List ℕ) → printed (image left ++ p) ≢ x ++ (text " refused 24\n" ++ y)
   never-printed p x y e =
       let plan = wholeActions p in
       nowhere (printed (image left ++ p)) (x ++ text " re") y
-      (printed-without left p (replies-24 (pieces (pieceCount plan) plan)) (play-sound (fresh n m) acts sound))
+      (printed-without left p (replies-24 (pieces (pieceCount plan) plan)) (play-sound (fresh n m R) acts sound))
       (e ∙ sym (append-assoc x (text " re") (sought ++ y)))
 
   -- so whoever keeps the promise of `rehearse` leaves no such line in the part of the buffer that is printed

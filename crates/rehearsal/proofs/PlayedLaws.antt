@@ -4,12 +4,14 @@ use native.Mathlib.Omega.{arith}
 use mathlib.Core.Bool.{true, false}
 use mathlib.Core.Path.{_≡_, refl, ap, sym, _∙_}
 use mathlib.Core.List.{List, _++_, flatten}
-use lib.ListN.{length, getD, take, drop, replicate, length-replicate}
-use lib.Seq.{length-take-le, take-at}
+use lib.ListN.{length, getD, take, drop}
+use lib.Seq.{length-take-le, take-all}
 use borrow.Author.Tests.{eq-eqb, ne-eqb}
+use Rattle.words.specs.Refusal.{nothing, answer}
 use Rattle.algorithm.specs.Table.{broken}
-use Rattle.algorithm.specs.Run.{pieces, pieceCount, run}
+use Rattle.algorithm.specs.Run.{answerIn, answersIn, pieces, pieceCount, run}
 use Rattle.algorithm.proofs.Runs.{play-sound, replies-count}
+use Rattle.algorithm.proofs.Replies.{play-carried, answers-back, length-answers, answer-at}
 use Rattle.table.specs.Layout.{stored, tableIn, whole}
 use Rattle.table.proofs.HeldLaws.{its-table, held}
 use Rattle.table.proofs.StoredLaws.{held-stored}
@@ -25,14 +27,22 @@ use Rattle.writer.specs.Writer.{Savable, imageOf}
 use Rattle.writer.proofs.WriteLaws.{savable}
 use Rattle.buffer.specs.Buffer.{Wrote, WroteShort, numberRoom}
 use Rattle.report.specs.Lines.{repliedLine, cutLine, repliedLines, cutLines, tableLines, wholeActions, playedLines, repliedRoom, tableRoom}
-use Rattle.report.proofs.OrderLaws.{no-lines, one-line, more-lines, Lined, lined-more}
+use Rattle.report.proofs.OrderLaws.{no-lines, one-line, more-lines, Lined, lined-more, lined-all}
 use Rattle.rehearsal.specs.Programs.{longest}
 
 -- ---- replies
 
-pub replies-more : (b b₁ b₂ rs : List ℕ) (at k n d e : ℕ) → Lined repliedRoom repliedLine rs b at b₁ k d → k < n → n ≤ length rs
-    → WroteShort repliedRoom b₁ b₂ d (repliedLine (k + 1) (getD rs k 0)) e → Lined repliedRoom repliedLine rs b at b₂ (k + 1) e
-replies-more b b₁ b₂ rs at k n d e = lined-more repliedRoom repliedLine rs b at 0 b₁ b₂ k n d e
+pub replies-more : (b b₁ b₂ rs : List ℕ) (from k n d e at next : ℕ) → Lined repliedRoom repliedLine (answersIn n rs) b from b₁ k d → k < n → at ≡ 8 * k → next ≡ at + 8
+    → WroteShort repliedRoom b₁ b₂ d (repliedLine (k + 1) (answerIn (take (next - at) (drop at rs)))) e → Lined repliedRoom repliedLine (answersIn n rs) b from b₂ (k + 1) e
+replies-more b b₁ b₂ rs from k n d e at next v l f g w =
+    let eight : next - at ≡ 8 = omega arith in
+    let here : answerIn (take (next - at) (drop at rs)) ≡ getD (answersIn n rs) k (answer 0 nothing) = rw (eight, f) (sym (answer-at n k rs l)) in
+    lined-more repliedRoom repliedLine (answersIn n rs) b from (answer 0 nothing) b₁ b₂ k n d e v l (omega (arith, length-answers n rs)) (rw here at w)
+
+pub replies-all : (b b₁ rs : List ℕ) (from k n e : ℕ) → k ≤ n → n ≤ k → Lined repliedRoom repliedLine (answersIn n rs) b from b₁ k e
+    → WroteShort (repliedRoom * n) b b₁ from (flatten (repliedLines (answersIn n rs))) e
+replies-all b b₁ rs from k n e l m v =
+    rw (take-all n (answersIn n rs) (omega (arith, length-answers n rs))) at (lined-all repliedRoom repliedLine (answersIn n rs) b from b₁ k n e l m v)
 
 -- ---- what stands behind the whole actions
 
@@ -55,18 +65,18 @@ module _ (b : List ℕ) (at : ℕ) (p : List ℕ) (n : ℕ) (whole : n ≡ lengt
 
 -- ---- as many pieces as there is room for: all of them
 
-module _ (t p : List ℕ) (k : ℕ) (t' r' : List ℕ) (small : length p ≤ longest) (h : Played t p (replicate (longest / 8) 0) k t' r') where
-  all : played p (replicate (longest / 8) 0) ≡ pieceCount p
-  all = omega (arith, length-replicate {A = ℕ} (longest / 8) 0)
+module _ (t p r : List ℕ) (k : ℕ) (t' r' : List ℕ) (small : length p ≤ longest) (room : length r ≡ longest) (h : Played t p r k t' r') where
+  all : played p r ≡ pieceCount p
+  all = omega arith
 
   pub counted : k ≡ pieceCount p
   counted = h .count ∙ all
 
-  replies : take k r' ≡ run (tableIn t) p .replies
+  replies : answersIn k r' ≡ run (tableIn t) p .replies
   replies =
       let mine = run (tableIn t) p .replies in
-      ap (take k) (h .replies)
-      ∙ rw all (take-at mine (drop (pieceCount p) (replicate (longest / 8) 0)) k (replies-count (pieceCount p) (tableIn t) p ∙ sym counted))
+      let few : k ≡ length mine = counted ∙ sym (replies-count (pieceCount p) (tableIn t) p) in
+      rw (few, h .replies, all) (answers-back mine (drop (8 * pieceCount p) r) (play-carried (tableIn t) (pieces (pieceCount p) p)))
 
   table : tableIn t' ≡ run (tableIn t) p .table
   table = its-table (rw all at (h .table))
@@ -90,20 +100,20 @@ module _ (t p : List ℕ) (k : ℕ) (t' r' : List ℕ) (small : length p ≤ lon
 
 -- ---- the lines of the whole actions and of what they leave
 
-module _ (t p : List ℕ) (k : ℕ) (t' r' : List ℕ) (small : length p ≤ longest) (h : Played t (wholeActions p) (replicate (longest / 8) 0) k t' r') where
+module _ (t p r : List ℕ) (k : ℕ) (t' r' : List ℕ) (small : length p ≤ longest) (room : length r ≡ longest) (h : Played t (wholeActions p) r k t' r') where
   shorter : length (wholeActions p) ≤ longest
   shorter = omega (arith, length-take-le (length p - length p % 8) p (omega arith))
 
   pub whole-count : k ≡ length p / 8
-  whole-count = omega (arith, counted t (wholeActions p) k t' r' shorter h, length-take-le (length p - length p % 8) p (omega arith))
+  whole-count = omega (arith, counted t (wholeActions p) r k t' r' shorter room h, length-take-le (length p - length p % 8) p (omega arith))
 
-  pub played-shown : (b b₁ b₂ b₃ : List ℕ) (c d e : ℕ) → WroteShort (repliedRoom * k) b b₁ 0 (flatten (repliedLines (take k r'))) c
+  pub played-shown : (b b₁ b₂ b₃ : List ℕ) (c d e : ℕ) → WroteShort (repliedRoom * k) b b₁ 0 (flatten (repliedLines (answersIn k r'))) c
       → WroteShort (numberRoom + 5) b₁ b₂ c (flatten (cutLines p)) d → WroteShort tableRoom b₂ b₃ d (flatten (tableLines (tableIn t'))) e
       → Wrote b b₃ 0 (flatten (playedLines (tableIn t) p)) e
   unfolding playedLines
   played-shown b b₁ b₂ b₃ c d e u v w =
       let ran = run (tableIn t) (wholeActions p) in
-      let told = rw (replies t (wholeActions p) k t' r' shorter h) at u in
-      let left = rw (table t (wholeActions p) k t' r' shorter h) at w in
+      let told = rw (replies t (wholeActions p) r k t' r' shorter room h) at u in
+      let left = rw (table t (wholeActions p) r k t' r' shorter room h) at w in
       more-lines (repliedLines (ran .replies)) (cutLines p ++ tableLines (ran .table)) told
       (more-lines (cutLines p) (tableLines (ran .table)) v left) .wrote

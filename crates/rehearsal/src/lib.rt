@@ -2,8 +2,8 @@
 ghost use mathlib.Core.Path.{_≡_};
 ghost use mathlib.Core.List.{flatten};
 ghost use Prim.Native.Nat.{_+_, _*_, _/_, _≤_};
-ghost use lib.ListN.{length, take};
-ghost use Rattle.algorithm.specs.Run.{run};
+ghost use lib.ListN.{length};
+ghost use Rattle.algorithm.specs.Run.{answersIn, run};
 ghost use Rattle.table.specs.Layout.{tableBytes, tableIn};
 ghost use Rattle.engine.specs.Engine.{Ready};
 ghost use Rattle.image.specs.Image.{image, longestImage};
@@ -30,6 +30,9 @@ pub const MOST: usize = 65536;
 
 const PIECES: usize = MOST / 8;
 
+// Room for their replies, of 8 bytes each.
+const REPLIES: usize = 8 * PIECES;
+
 // Room for all that rehearse prints: a reply for each piece, a cut, a table.
 pub const ROOM: usize = REPLIED * PIECES + CUT + TABLE;
 
@@ -50,14 +53,16 @@ pub enum Saved {
 
 // The first n replies, each under its action's number.
 fn put_replies(buffer: &mut [u8], from: usize, replies: &[u8], n: usize) -> usize
-    requires { ⌜ (n ≤ length (now replies)) × (8 * n ≤ longest) ⌝ }
+    requires { ⌜ (8 * n ≤ length (now replies)) × (8 * n ≤ longest) ⌝ }
     requires { ⌜ from + repliedRoom * n ≤ length (now buffer) ⌝ }
-    ensures { λ e. ⌜ WroteShort (repliedRoom * n) (now (buffer .entry)) (now (buffer .exit)) from (flatten (repliedLines (take n (now (replies .entry))))) e ⌝ }
+    ensures { λ e. ⌜ WroteShort (repliedRoom * n) (now (buffer .entry)) (now (buffer .exit)) from (flatten (repliedLines (answersIn n (now (replies .entry))))) e ⌝ }
 {
     let mut end = from;
     let mut k: usize = 0;
     while k < n {
-        end = replied_line(buffer, end, k as u32 + 1, replies[k]);
+        let at = 8 * k;
+        let next = at + 8;
+        end = replied_line(buffer, end, k as u32 + 1, &replies[at..next]);
         k += 1;
     }
     end
@@ -77,29 +82,29 @@ fn put_cut(buffer: &mut [u8], at: usize, actions: &[u8], n: usize) -> usize
 }
 
 // The whole actions are played first, and then told: nothing but the engine's run plays an action.
-fn put_played(buffer: &mut [u8], t: &mut [u8], actions: &[u8]) -> usize
+fn put_played(buffer: &mut [u8], t: &mut [u8], actions: &[u8], replies: &mut [u8]) -> usize
     requires { ⌜ Ready (now t) ⌝ }
+    requires { ⌜ length (now replies) ≡ longest ⌝ }
     requires { ⌜ length (now actions) ≤ longest ⌝ }
     requires { do ⌜ (← ⟦ROOM⟧) ≤ length (now buffer) ⌝ }
     ensures { λ e. ⌜ Wrote (now (buffer .entry)) (now (buffer .exit)) 0 (flatten (playedLines (tableIn (now (t .entry))) (now (actions .entry)))) e ⌝ }
 {
-    let mut replies = [0u8; PIECES];
     let whole = actions.len() - actions.len() % 8;
-    let n = run(t, &actions[..whole], &mut replies);
-    let end = put_replies(buffer, 0, &replies, n);
+    let n = run(t, &actions[..whole], replies);
+    let end = put_replies(buffer, 0, replies, n);
     let end = put_cut(buffer, end, actions, n);
     put_table(buffer, end, t)
 }
 
 // All pieces are played, and the image of the table that is left is put: a last piece that is cut is refused and alters nothing.
-fn put_left(buffer: &mut [u8], t: &mut [u8], actions: &[u8]) -> usize
+fn put_left(buffer: &mut [u8], t: &mut [u8], actions: &[u8], replies: &mut [u8]) -> usize
     requires { ⌜ Ready (now t) ⌝ }
+    requires { ⌜ length (now replies) ≡ longest ⌝ }
     requires { ⌜ length (now actions) ≤ longest ⌝ }
     requires { ⌜ longestImage ≤ length (now buffer) ⌝ }
     ensures { λ e. ⌜ Wrote (now (buffer .entry)) (now (buffer .exit)) 0 (image (run (tableIn (now (t .entry))) (now (actions .entry)) .table)) e ⌝ }
 {
-    let mut replies = [0u8; PIECES];
-    run(t, actions, &mut replies);
+    run(t, actions, replies);
     put_image(buffer, t)
 }
 
@@ -126,9 +131,10 @@ pub fn rehearse(input: &[u8], buffer: &mut [u8]) -> usize
     ensures { λ n. ⌜ Wrote (now (buffer .entry)) (now (buffer .exit)) 0 (printed (now (input .entry))) n ⌝ }
 {
     let mut t = [0u8; BYTES];
+    let mut replies = [0u8; REPLIES];
     match open_input(input, &mut t, buffer) {
         Opened::Fault(n) => n,
-        Opened::Site(at) => put_played(buffer, &mut t, &input[at..]),
+        Opened::Site(at) => put_played(buffer, &mut t, &input[at..], &mut replies),
     }
 }
 
@@ -138,8 +144,9 @@ pub fn save(input: &[u8], buffer: &mut [u8]) -> Saved
     ensures { λ r. ⌜ SaveAnswer (now (input .entry)) (now (buffer .entry)) r (now (buffer .exit)) ⌝ }
 {
     let mut t = [0u8; BYTES];
+    let mut replies = [0u8; REPLIES];
     match open_input(input, &mut t, buffer) {
         Opened::Fault(n) => Saved::Told(n),
-        Opened::Site(at) => Saved::Image(put_left(buffer, &mut t, &input[at..])),
+        Opened::Site(at) => Saved::Image(put_left(buffer, &mut t, &input[at..], &mut replies)),
     }
 }

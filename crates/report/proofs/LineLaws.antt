@@ -1,23 +1,25 @@
 -- What the parts of a line make when they are written one behind another. Assumes nothing.
-use Prim.Native.Nat.{ℕ, zero, suc, _≤_, _+_, _*_}
+use Prim.Native.Nat.{ℕ, _≤_, _+_, _*_}
 use native.Mathlib.Omega.{arith}
-use mathlib.Core.Path.{_≡_, refl, sym}
-use mathlib.Core.List.{List, _++_}
+use mathlib.Core.Path.{_≡_, sym, _∙_}
+use mathlib.Core.List.{List, [], _∷_, _++_}
 use lib.ListN.{length, take}
 use borrow.Author.Tests.{eq-eqb, ne-eqb}
+use Rattle.words.specs.Refusal.{Shown, Answer}
 use Rattle.algorithm.specs.Table.{positions, trimmed}
 use Rattle.table.specs.declared.rows.Row.{Row}
 use Rattle.table.proofs.MarkLaws.{trimmed-take}
 use Rattle.buffer.specs.Buffer.{text, decimal, numberRoom, field, fieldRoom, fields, Wrote, WroteShort}
-use Rattle.report.specs.Lines.{reply, repliedLine, cutLine, badSiteLine, tooLongLine, letter, figures, shownRow, marksLine, repliedRoom, rowRoom}
-use Rattle.buffer.proofs.WroteLaws.{exact, then-short}
+use Rattle.report.specs.Lines.{pair, reply, repliedLine, cutLine, badSiteLine, tooLongLine, letter, figures, shownRow, marksLine, replyRoom, repliedRoom, rowRoom}
+use Rattle.buffer.proofs.WroteLaws.{wrote-none, exact, then-short}
+use Rattle.buffer.proofs.FieldLaws.{one-field, more-fields}
 
 -- ---- parts of a line
 
 module _ (b b₁ : List ℕ) (at e : ℕ) where
-  pub taken : (r : ℕ) → r ≡ 0 → Wrote b b₁ at (text " taken") e → WroteShort (8 + fieldRoom) b b₁ at (reply r) e
+  pub taken : (a : Answer) (k : ℕ) → k ≡ a .number → k ≡ 0 → Wrote b b₁ at (text " taken") e → WroteShort replyRoom b b₁ at (reply a) e
   unfolding reply
-  taken r h w = record { wrote = rw h w; short = omega (arith, w .end) }
+  taken a k is h w = record { wrote = rw (eq-eqb (a .number) 0 (sym is ∙ h)) w; short = omega (arith, w .end) }
 
   pub primary : (r : ℕ) → r ≡ 1 → Wrote b b₁ at (text " P") e → WroteShort 2 b b₁ at (letter r) e
   unfolding letter
@@ -27,11 +29,22 @@ module _ (b b₁ : List ℕ) (at e : ℕ) where
   unfolding letter
   secondary r h w = rw (ne-eqb r 1 h) (exact w)
 
-module _ (b b₁ b₂ : List ℕ) (at d e : ℕ) where
-  pub refused : (r : ℕ) → (r ≡ 0 → ⊥) → Wrote b b₁ at (text " refused") d → WroteShort fieldRoom b₁ b₂ d (field r) e → WroteShort (8 + fieldRoom) b b₂ at (reply r) e
-  unfolding reply
-  refused zero h w f = absurd (h refl)
-  refused (suc r) h w f = then-short (exact w) f
+-- x and y are the majorities as the code has read them
+module _ (s : Shown) (x : ℕ) (is : x ≡ s .old) (b : List ℕ) (at : ℕ) where
+  pub no-pair : x ≡ 0 → at + 2 * fieldRoom ≤ length b → WroteShort (2 * fieldRoom) b b at (pair s) at
+  unfolding pair
+  no-pair h l = rw (eq-eqb (s .old) 0 (sym is ∙ h)) (record { wrote = wrote-none b at (omega arith); short = omega arith })
+
+  pub pair-shown : (b₁ b₂ : List ℕ) (d e y : ℕ) → (x ≡ 0 → ⊥) → y ≡ s .new → WroteShort fieldRoom b b₁ at (field x) d
+      → WroteShort fieldRoom b₁ b₂ d (field y) e → WroteShort (2 * fieldRoom) b b₂ at (pair s) e
+  unfolding pair
+  pair-shown b₁ b₂ d e y h too f g =
+      rw (ne-eqb (s .old) 0 (λ z. h (is ∙ z)), ← is, ← too) (more-fields (x ∷ []) (y ∷ []) (one-field x f) (one-field y g))
+
+pub refused : (b b₁ b₂ b₃ : List ℕ) (at c d e : ℕ) (a : Answer) (k : ℕ) → k ≡ a .number → (k ≡ 0 → ⊥) → Wrote b b₁ at (text " refused") c
+    → WroteShort fieldRoom b₁ b₂ c (field k) d → WroteShort (2 * fieldRoom) b₂ b₃ d (pair (a .shown)) e → WroteShort replyRoom b b₃ at (reply a) e
+unfolding reply
+refused b b₁ b₂ b₃ at c d e a k is h w f g = rw (ne-eqb (a .number) 0 (λ z. h (is ∙ z)), ← is) (then-short (then-short (exact w) f) g)
 
 pub head : (b b₁ b₂ b₃ : List ℕ) (at c d e s r : ℕ) → Wrote b b₁ at (text "row") c → WroteShort fieldRoom b₁ b₂ c (field s) d
     → WroteShort 2 b₂ b₃ d (letter r) e → WroteShort (5 + fieldRoom) b b₃ at (text "row" ++ field s ++ letter r) e
@@ -50,10 +63,10 @@ module _ (b b₁ b₂ : List ℕ) (at d e : ℕ) where
   cut k n w = then-short n (exact w)
 
 module _ (b b₁ b₂ b₃ : List ℕ) (at c d e : ℕ) where
-  pub replied : (k r : ℕ) → WroteShort numberRoom b b₁ at (decimal k) c → WroteShort (8 + fieldRoom) b₁ b₂ c (reply r) d → Wrote b₂ b₃ d (text "\n") e
-      → WroteShort repliedRoom b b₃ at (repliedLine k r) e
+  pub replied : (k : ℕ) (a : Answer) → WroteShort numberRoom b b₁ at (decimal k) c → WroteShort replyRoom b₁ b₂ c (reply a) d → Wrote b₂ b₃ d (text "\n") e
+      → WroteShort repliedRoom b b₃ at (repliedLine k a) e
   unfolding repliedLine
-  replied k r n p w = then-short (then-short n p) (exact w)
+  replied k a n p w = then-short (then-short n p) (exact w)
 
   pub bad-site : (r : ℕ) → Wrote b b₁ at (text "bad site") c → WroteShort fieldRoom b₁ b₂ c (field r) d → Wrote b₂ b₃ d (text "\n") e
       → WroteShort (8 + fieldRoom + 1) b b₃ at (badSiteLine r) e

@@ -6,10 +6,10 @@ use Rattle.words.specs.Lists.{nth, replace, every}
 use Rattle.algorithm.specs.Table.{trimmed, broken, fresh}
 use Rattle.algorithm.specs.Actions.{votersFrom, someMarked, holdsMarked}
 use Rattle.algorithm.specs.Run.{refusals, after, step, pieces, play}
-use Rattle.words.specs.Refusal.{first}
+use Rattle.words.specs.Refusal.{first, firstShown}
 use Rattle.buffer.specs.Buffer.{digits, decimal, field, fields}
-use Rattle.report.specs.Lines.{reply, repliedLine, letter, shownRow, marksLine, numbered, tableLines, cutLines, playedLines, plan, expected}
+use Rattle.report.specs.Lines.{pair, reply, repliedLine, letter, shownRow, marksLine, numbered, tableLines, cutLines, playedLines, plan, expected}
 
-pub case-holds : playedLines (fresh 4 7) plan ≡ expected
-unfolding expected playedLines cutLines tableLines numbered digits decimal field fields reply repliedLine letter shownRow trimmed marksLine ones mask nth replace every broken votersFrom someMarked holdsMarked refusals first after step pieces play
+pub case-holds : playedLines (fresh 4 7 0) plan ≡ expected
+unfolding expected playedLines pair cutLines tableLines numbered digits decimal field fields reply repliedLine letter shownRow trimmed marksLine ones mask nth replace every broken votersFrom someMarked holdsMarked refusals first firstShown after step pieces play
 case-holds = refl

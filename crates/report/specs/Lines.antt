@@ -1,10 +1,11 @@
 -- The lines that `rehearse` prints, as bytes: one by one, those of a table and its actions, and the case that document 01 prints. Assumes nothing.
-use Prim.Native.Nat.{ℕ, zero, suc, _+_, _*_, _-_, _/_, _%_}
+use Prim.Native.Nat.{ℕ, suc, _+_, _*_, _-_, _/_, _%_}
 use Prim.Native.String.{String}
 use mathlib.Core.Bool.{cond}
 use mathlib.Core.List.{List, [], _∷_, _++_, map}
 use lib.Dec.{eqb}
 use lib.ListN.{length, take}
+use Rattle.words.specs.Refusal.{Shown, Answer, unlessRefused}
 use Rattle.algorithm.specs.Table.{Server, positions, mostServers, trimmed, Table}
 use Rattle.algorithm.specs.Run.{run}
 use Rattle.algorithm.specs.Cases.{actionBytes}
@@ -14,14 +15,17 @@ use Rattle.buffer.specs.Buffer.{text, numberRoom, decimal, fieldRoom, field, fi
 
 -- ---- lines on actions
 
--- a reply: 0 is taken
-unfoldable pub reply : ℕ → List ℕ
-reply zero = text " taken"
-reply (suc r) = text " refused" ++ field (suc r)
+-- two majorities, where some are shown
+unfoldable pub pair : Shown → List ℕ
+pair s = cond (eqb (s .old) 0) [] (fields (s .old ∷ s .new ∷ []))
 
--- action k has the reply r
-unfoldable pub repliedLine : ℕ → ℕ → List ℕ
-repliedLine k r = decimal k ++ reply r ++ text "\n"
+-- a reply: 0 is taken
+unfoldable pub reply : Answer → List ℕ
+reply a = unlessRefused (a .number) (text " taken") (text " refused" ++ field (a .number) ++ pair (a .shown))
+
+-- action k has the reply a
+unfoldable pub repliedLine : ℕ → Answer → List ℕ
+repliedLine k a = decimal k ++ reply a ++ text "\n"
 
 -- fewer than 8 bytes, but some, are left for action k
 unfoldable pub cutLine : ℕ → List ℕ
@@ -61,9 +65,13 @@ marksLine ms = text "marks" ++ fields (trimmed ms) ++ text "\n"
 
 -- ---- room: how many bytes a line has at most
 
--- that of a reply
+-- a reply without its number and the line's end
+abbrev pub replyRoom : ℕ
+replyRoom = 8 + fieldRoom + 2 * fieldRoom
+
+-- the line of a reply
 abbrev pub repliedRoom : ℕ
-repliedRoom = numberRoom + (8 + fieldRoom) + 1
+repliedRoom = numberRoom + replyRoom + 1
 
 -- that of a server
 abbrev pub rowRoom : ℕ
@@ -79,7 +87,7 @@ numbered line k [] = []
 numbered line k (a ∷ rest) = line k a ∷ numbered line (suc k) rest
 
 -- the lines of replies
-abbrev pub repliedLines : List ℕ → List (List ℕ)
+abbrev pub repliedLines : List Answer → List (List ℕ)
 repliedLines rs = numbered repliedLine 1 rs
 
 -- the lines of servers

@@ -1,10 +1,12 @@
 // The lines that rehearse prints, each put at a place of a lent buffer. Every function answers the place behind its line.
 mod parts;
 
+ghost use mathlib.Core.Path.{_≡_};
 ghost use Prim.Native.Nat.{_+_, _*_, _≤_};
 ghost use lib.ListN.{length};
 ghost use mathlib.Core.List.{flatten};
 ghost use Rattle.algorithm.specs.Table.{positions, mostServers};
+ghost use Rattle.algorithm.specs.Run.{answerIn};
 ghost use Rattle.table.specs.Layout.{tableIn};
 ghost use Rattle.table.specs.Slice.{Held};
 ghost use Rattle.report.specs.Lines.{repliedLine, cutLine, badSiteLine, tooLongLine, shownRow, marksLine, rowLines, tableLines, repliedRoom, rowRoom, tableRoom};
@@ -22,17 +24,18 @@ use table::rows::Row;
 use table::rows::count_of;
 use table::rows::row_of;
 
-// Room for the line of a reply, for that of a cut and for all lines of a table (specs/Rooms.antt).
-pub const REPLIED: usize = 30;
+// Room for the line of a reply, for that of a cut and for all lines of a table (specs/Lines.antt).
+pub const REPLIED: usize = 52;
 
 pub const CUT: usize = 15;
 
 pub const TABLE: usize = 2038;
 
-// Action k has the reply r, 0 for taken.
-pub fn replied_line(buffer: &mut [u8], at: usize, k: u32, r: u8) -> usize
+// Action k has the reply that the eight bytes are.
+pub fn replied_line(buffer: &mut [u8], at: usize, k: u32, r: &[u8]) -> usize
+    requires { ⌜ length (now r) ≡ 8 ⌝ }
     requires { ⌜ at + repliedRoom ≤ length (now buffer) ⌝ }
-    ensures { λ e. ⌜ WroteShort repliedRoom (now (buffer .entry)) (now (buffer .exit)) at (repliedLine k r) e ⌝ }
+    ensures { λ e. ⌜ WroteShort repliedRoom (now (buffer .entry)) (now (buffer .exit)) at (repliedLine k (answerIn (now (r .entry)))) e ⌝ }
 {
     let end = put_decimal(buffer, at, k);
     let end = put_reply(buffer, end, r);

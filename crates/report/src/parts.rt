@@ -1,28 +1,50 @@
 // The parts that single lines have: a reply, the head and the figures of a row, the marks.
+ghost use mathlib.Core.Path.{_≡_};
 ghost use mathlib.Core.List.{[], _∷_, _++_};
 ghost use Prim.Native.Nat.{_+_, _*_, _≤_};
 ghost use lib.ListN.{length, take};
 ghost use Rattle.algorithm.specs.Table.{positions};
+ghost use Rattle.algorithm.specs.Run.{answerIn};
 ghost use Rattle.table.specs.Layout.{tableIn};
 ghost use Rattle.table.specs.Slice.{Held};
 ghost use Rattle.buffer.specs.Buffer.{text, field, fieldRoom, fields, WroteShort};
-ghost use Rattle.report.specs.Lines.{reply, letter, figures};
+ghost use Rattle.report.specs.Lines.{pair, reply, replyRoom, letter, figures};
 use algorithm::PRIMARY;
 use algorithm::Position;
 use buffer::put_field;
 use buffer::put_word;
 use table::rows::Row;
 use table::rows::mark_of;
+use words::half;
+use words::wide;
 
-pub(crate) fn put_reply(buffer: &mut [u8], at: usize, r: u8) -> usize
-    requires { ⌜ at + (8 + fieldRoom) ≤ length (now buffer) ⌝ }
-    ensures { λ e. ⌜ WroteShort (8 + fieldRoom) (now (buffer .entry)) (now (buffer .exit)) at (reply r) e ⌝ }
+// The two majorities that the eight bytes of a reply show, if they do.
+fn put_pair(buffer: &mut [u8], at: usize, r: &[u8]) -> usize
+    requires { ⌜ length (now r) ≡ 8 ⌝ }
+    requires { ⌜ at + 2 * fieldRoom ≤ length (now buffer) ⌝ }
+    ensures { λ e. ⌜ WroteShort (2 * fieldRoom) (now (buffer .entry)) (now (buffer .exit)) at (pair (answerIn (now (r .entry)) .shown)) e ⌝ }
 {
-    if r == 0 {
+    let old = half(r, 4);
+    if old == 0 {
+        return at;
+    }
+    let end = put_field(buffer, at, old as u32);
+    put_field(buffer, end, half(r, 6) as u32)
+}
+
+// A reply by its eight bytes.
+pub(crate) fn put_reply(buffer: &mut [u8], at: usize, r: &[u8]) -> usize
+    requires { ⌜ length (now r) ≡ 8 ⌝ }
+    requires { ⌜ at + replyRoom ≤ length (now buffer) ⌝ }
+    ensures { λ e. ⌜ WroteShort replyRoom (now (buffer .entry)) (now (buffer .exit)) at (reply (answerIn (now (r .entry)))) e ⌝ }
+{
+    let number = wide(r[0]);
+    if number == 0 {
         return put_word(buffer, at, b" taken");
     }
     let end = put_word(buffer, at, b" refused");
-    put_field(buffer, end, r as u32)
+    let end = put_field(buffer, end, number);
+    put_pair(buffer, end, r)
 }
 
 fn put_role(buffer: &mut [u8], at: usize, role: u32) -> usize

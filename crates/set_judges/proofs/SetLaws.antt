@@ -1,18 +1,28 @@
 -- How the servers that pass decide a refusal. Assumes nothing.
-use Prim.Native.Nat.{ℕ, _≤_}
+use Prim.Native.Nat.{ℕ, zero, suc, _≤_, _<_}
 use native.Mathlib.Omega.{arith}
-use mathlib.Core.Path.{_≡_, sym, ap, _∙_}
+use mathlib.Core.Logic.{_≢_}
+use mathlib.Core.Path.{_≡_, refl, sym, ap, _∙_}
 use mathlib.Core.Bool.{Bool, true, false, not, _||_, _&&_}
 use mathlib.Core.List.{[], _∷_}
 use lib.Dec.{eqb, ltb}
 use lib.ListN.{length}
-use Rattle.members.specs.Members.{oneApart, majority, passing, allPass, somePass}
+use Rattle.members.specs.Members.{majority, passing, allPass, somePass}
+use borrow.Author.Tests.{ne-eqb}
+use Rattle.words.specs.Refusal.{answer}
+use Rattle.words.proofs.Tests.{false-fails}
+use Rattle.members.specs.Rules.{allMeet, mayFollow, oldApart, newApart, lowestPair}
+use Rattle.members.specs.declared.apart.Pair.{Pair}
+use Rattle.members.proofs.Majorities.{other-rule}
+use Rattle.members.proofs.Pairs.{some-apart, majority-range}
+use Rattle.algorithm.specs.declared.Reply.the-variants.{Refused, Apart}
+use Rattle.algorithm.specs.Run.{replyOf}
 use Rattle.algorithm.specs.Table.{Log, Table, count, server, mark, last}
-use Rattle.algorithm.specs.Actions.{largerTerm, newerConfig, logAhead, sameTerm, someMarked, holdsCommitted, q1, q2, p1, supportsAt}
+use Rattle.algorithm.specs.Actions.{apartShown, largerTerm, newerConfig, logAhead, sameTerm, someMarked, holdsCommitted, q1, q2, p1, supportsAt}
 use Rattle.questions.specs.declared.votes.Objections.{Objections}
 use Rattle.questions.specs.declared.shares.Shares.{Shares}
 use Rattle.questions.specs.Questions.{objecting, alike}
-use Rattle.words.proofs.RefusalLaws.{judging}
+use Rattle.algorithm.proofs.Replies.{replying}
 
 -- some member of q objects to an election
 module _ (t : Table) (i q : ℕ) (o : Objections) (e : o ≡ objecting t i q (count t)) where
@@ -59,8 +69,38 @@ module _ (x a : ℕ) (e : x ≡ a) (m : ℕ) (r : Bool) where
   pub majority-told : r ≡ majority m x → r ≡ majority m a
   majority-told f = rw e at f
 
-  pub apart-told : r ≡ oneApart x m → r ≡ oneApart a m
-  apart-told f = rw e at f
+-- under rule 2 refusal 13 is a reply of its own: a majority is not empty
+pair-shown : (R s m : ℕ) → R ≢ 0 → 0 < s → 0 < m → allMeet s m ≡ false
+    → Apart (oldApart s m) (newApart s m) ≡ replyOf (answer 13 (apartShown R s m))
+pair-shown zero s m o a b f = absurd (o refl)
+pair-shown (suc k) s m o a b f =
+    let (some, _) = majority-range (oldApart s m) (some-apart s m a b (false-fails f) .pair .old) in
+    rw (ne-eqb (oldApart s m) 0 (omega arith))
+
+-- a test that the code has turned round
+pub denied : (r b : Bool) → r ≡ b → not r ≡ true → b ≡ false
+denied true b e o = let z : _≡_ {A = ℕ} 0 1 = cc in absurd (omega arith)
+denied false b e o = sym e
+
+-- refusal 13, where the code has read the rule u
+module _ (R s m u : ℕ) (f : u ≡ R) where
+  pub alone-told : u ≡ 0 → Refused 13 ≡ replyOf (answer 13 (apartShown R s m))
+  alone-told z = rw (sym f ∙ z)
+
+  -- and the set x
+  module _ (x : ℕ) (e : x ≡ s) where
+    pub follow-told : (r : Bool) → r ≡ mayFollow u x m → r ≡ mayFollow R s m
+    follow-told r g = rw (f, e) at g
+
+    module _ (h : (0 < s) × (0 < m)) (no : mayFollow R s m ≡ false) (o : u ≢ 0) where
+      not-met : allMeet s m ≡ false
+      not-met = sym (other-rule R s m (rw f at o)) ∙ no
+
+      pub read-not-met : allMeet x m ≡ false
+      read-not-met = rw e not-met
+
+      pub pair-told : (p : Pair) → p ≡ lowestPair x m → Apart (p .old) (p .new) ≡ replyOf (answer 13 (apartShown R s m))
+      pair-told p q = rw (q, e) (pair-shown R s m (rw f at o) (h .0) (h .1) not-met)
 
 pub last-told : (x a k : ℕ) → x ≡ a → eqb x k ≡ eqb a k
 last-told x a k e = rw e
@@ -73,4 +113,4 @@ pub otherwise-told : (t : Table) (x y p q c : ℕ) (r : Bool) → r ≡ eqb x y 
 otherwise-told t x y p q c r o e f g = rw (o, e, f, g)
 
 -- what finds the first refusal from tests on sets
-pub ruleset weighing = (judging, larger-told, newer-told, ahead-told, config-told, term-told, all-told)
+pub ruleset weighing = (replying, larger-told, newer-told, ahead-told, config-told, term-told, all-told)

@@ -3,20 +3,25 @@ ghost use mathlib.Core.Path.{_≡_};
 ghost use mathlib.Core.Bool.{false};
 ghost use lib.Dec.{eqb};
 ghost use mathlib.Core.List.{_++_};
-ghost use Rattle.members.specs.Members.{oneApart, majority, passing};
+ghost use Prim.Native.Nat.{_<_};
+ghost use Rattle.members.specs.Members.{majority, passing};
+ghost use Rattle.members.specs.Rules.{mayFollow};
 ghost use Rattle.algorithm.specs.Table.{count, server, ceiling};
-ghost use Rattle.algorithm.specs.Actions.{electRefusals, sameTerm, p1, majorityRefusals, markRefusals, reconfigureRefusals, lacksEntry, markedOtherwise, commitRefusals};
-ghost use Rattle.words.specs.Refusal.{first};
+ghost use Rattle.algorithm.specs.Actions.{apartShown, electRefusals, sameTerm, p1, majorityRefusals, markRefusals, reconfigureRefusals, lacksEntry, markedOtherwise, commitRefusals};
+ghost use Rattle.words.specs.Refusal.{answer, given};
+ghost use Rattle.algorithm.specs.Run.{replyOf};
 ghost use Rattle.table.specs.Layout.{tableIn};
 ghost use Rattle.table.specs.Slice.{Held, Within};
 use algorithm::CEILING;
 use algorithm::POSITIONS;
 use algorithm::PRIMARY;
+use algorithm::Reply;
 use algorithm::term_is;
 use comparisons::lacks_role;
+use members::apart::lowest_apart;
 use members::is_majority;
 use members::is_member;
-use members::is_one_apart;
+use members::may_follow;
 use questions::marks::holding;
 use questions::marks::is_marked;
 use questions::shares::sharing;
@@ -25,6 +30,7 @@ use questions::votes::poll;
 use table::rows::last_of;
 use table::rows::length_of;
 use table::rows::mark_of;
+use table::rows::rule_of;
 use table::rows::set_of;
 use table::rows::term_of;
 use table::rows::version_of;
@@ -37,12 +43,13 @@ fn is_majority_of(t: &[u8], i: usize, q: u16) -> bool
     is_majority(q, set_of(t, i))
 }
 
-fn is_one_away(t: &[u8], i: usize, m: u16) -> bool
+fn may_become(t: &[u8], i: usize, m: u16) -> bool
     requires { ⌜ Held (now t) ⌝ }
     requires { ⌜ Within (now t) i ⌝ }
-    ensures { λ r. ⌜ r ≡ oneApart (server (tableIn (now (t .entry))) i .config .set) m ⌝ }
+    requires { ⌜ (0 < server (tableIn (now t)) i .config .set) × (0 < m) ⌝ }
+    ensures { λ r. ⌜ r ≡ mayFollow (tableIn (now (t .entry)) .rule) (server (tableIn (now (t .entry))) i .config .set) m ⌝ }
 {
-    is_one_apart(set_of(t, i), m)
+    may_follow(rule_of(t), set_of(t, i), m)
 }
 
 fn is_last_term(t: &[u8], i: usize) -> bool
@@ -61,31 +68,31 @@ fn is_last_version(t: &[u8], i: usize) -> bool
     version_of(t, i).0 == CEILING
 }
 
-pub fn judge_elect(t: &[u8], i: usize, q: u16) -> u8
+pub fn judge_elect(t: &[u8], i: usize, q: u16) -> Reply
     requires { ⌜ Held (now t) ⌝ }
     requires { ⌜ Within (now t) i ⌝ }
-    ensures { λ r. ⌜ r ≡ first (electRefusals (tableIn (now (t .entry))) i q) ⌝ }
+    ensures { λ r. ⌜ r ≡ replyOf (given (electRefusals (tableIn (now (t .entry))) i q)) ⌝ }
 {
     if !is_majority_of(t, i, q) | !is_member(i as u8, q) {
-        return 7;
+        return Reply::Refused(7);
     }
     let o = poll(t, i, q);
     let larger = 0 < o.larger;
     if larger {
-        return 8;
+        return Reply::Refused(8);
     }
     let newer = 0 < o.newer;
     if newer {
-        return 9;
+        return Reply::Refused(9);
     }
     let ahead = 0 < o.ahead;
     if ahead {
-        return 10;
+        return Reply::Refused(10);
     }
     if is_last_term(t, i) {
-        return 11;
+        return Reply::Refused(11);
     }
-    0
+    Reply::Taken
 }
 
 // P1, where `same` are the members of the set that have the term of server i.
@@ -102,41 +109,57 @@ fn is_safe(t: &[u8], i: usize, same: u16) -> bool
 }
 
 // Refusals 14 to 16: they do not look at the new set.
-fn judge_majorities(t: &[u8], i: usize) -> u8
+fn judge_majorities(t: &[u8], i: usize) -> Reply
     requires { ⌜ Held (now t) ⌝ }
     requires { ⌜ Within (now t) i ⌝ }
-    ensures { λ r. ⌜ r ≡ first (majorityRefusals (tableIn (now (t .entry))) i ++ markRefusals (tableIn (now (t .entry))) i) ⌝ }
+    ensures { λ r. ⌜ r ≡ replyOf (given (majorityRefusals (tableIn (now (t .entry))) i ++ markRefusals (tableIn (now (t .entry))) i)) ⌝ }
 {
     let set = set_of(t, i);
     let o = sharing(t, i, set);
     if !is_majority(o.config, set) {
-        return 14;
+        return Reply::Refused(14);
     }
     if !is_majority(o.term, set) {
-        return 15;
+        return Reply::Refused(15);
     }
     if !is_safe(t, i, o.term) {
-        return 16;
+        return Reply::Refused(16);
     }
-    0
+    Reply::Taken
 }
 
-pub fn judge_reconfigure(t: &[u8], i: usize, m: u16) -> u8
+// Refusal 13, of a set that may not follow: a bare number under rule 1, with the lowest pair of majorities apart under rule 2.
+fn refuse_set(t: &[u8], i: usize, m: u16) -> Reply
     requires { ⌜ Held (now t) ⌝ }
     requires { ⌜ Within (now t) i ⌝ }
-    ensures { λ r. ⌜ r ≡ first (reconfigureRefusals (tableIn (now (t .entry))) i m) ⌝ }
+    requires { ⌜ (0 < server (tableIn (now t)) i .config .set) × (0 < m) ⌝ }
+    requires { ⌜ mayFollow (tableIn (now t) .rule) (server (tableIn (now t)) i .config .set) m ≡ false ⌝ }
+    ensures { λ r. ⌜ r ≡ replyOf (answer 13 (apartShown (tableIn (now (t .entry)) .rule) (server (tableIn (now (t .entry))) i .config .set) m)) ⌝ }
+{
+    if rule_of(t) == 0 {
+        return Reply::Refused(13);
+    }
+    let pair = lowest_apart(set_of(t, i), m);
+    Reply::Apart(pair.old, pair.new)
+}
+
+pub fn judge_reconfigure(t: &[u8], i: usize, m: u16) -> Reply
+    requires { ⌜ Held (now t) ⌝ }
+    requires { ⌜ Within (now t) i ⌝ }
+    requires { ⌜ (0 < server (tableIn (now t)) i .config .set) × (0 < m) ⌝ }
+    ensures { λ r. ⌜ r ≡ replyOf (given (reconfigureRefusals (tableIn (now (t .entry))) i m)) ⌝ }
 {
     if lacks_role(t, i, PRIMARY) {
-        return 6;
+        return Reply::Refused(6);
     }
     if is_last_version(t, i) {
-        return 11;
+        return Reply::Refused(11);
     }
     if !is_member(i as u8, m) {
-        return 12;
+        return Reply::Refused(12);
     }
-    if !is_one_away(t, i, m) {
-        return 13;
+    if !may_become(t, i, m) {
+        return refuse_set(t, i, m);
     }
     judge_majorities(t, i)
 }
@@ -161,26 +184,26 @@ fn is_marked_otherwise(t: &[u8], i: usize) -> bool
     (m.0 != 0) & !term_is(m, term_of(t, i))
 }
 
-pub fn judge_commit(t: &[u8], i: usize, q: u16) -> u8
+pub fn judge_commit(t: &[u8], i: usize, q: u16) -> Reply
     requires { ⌜ Held (now t) ⌝ }
     requires { ⌜ Within (now t) i ⌝ }
-    ensures { λ r. ⌜ r ≡ first (commitRefusals (tableIn (now (t .entry))) i q) ⌝ }
+    ensures { λ r. ⌜ r ≡ replyOf (given (commitRefusals (tableIn (now (t .entry))) i q)) ⌝ }
 {
     if lacks_role(t, i, PRIMARY) {
-        return 6;
+        return Reply::Refused(6);
     }
     if !is_majority_of(t, i, q) {
-        return 7;
+        return Reply::Refused(7);
     }
     if lacks_entry(t, i) {
-        return 22;
+        return Reply::Refused(22);
     }
     let held = supporters(t, i, q, length_of(t, i)) == q;
     if !held {
-        return 23;
+        return Reply::Refused(23);
     }
     if is_marked_otherwise(t, i) {
-        return 24;
+        return Reply::Refused(24);
     }
-    0
+    Reply::Taken
 }

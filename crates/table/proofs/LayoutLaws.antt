@@ -21,8 +21,8 @@ length-padded (suc k) (x ∷ l) = ap suc (length-padded k l)
 pub length-row : (s : Server) → length (row s) ≡ rowWords
 length-row s = omega (arith, length-padded positions (terms (s .log)))
 
-pub length-head : (n : ℕ) (ms : List ℕ) → length (head n ms) ≡ rowWords
-length-head n ms = omega (arith, length-padded positions ms)
+pub length-head : (t : Table) → length (head t) ≡ rowWords
+length-head t = omega (arith, length-padded positions (t .marks))
 
 length-rows : (k : ℕ) (ss : List Server) → length (rows k ss) ≡ rowWords * k
 unfolding rows
@@ -32,7 +32,7 @@ length-rows (suc k) (s ∷ ss) = simp length-append (omega (arith, length-row s,
 
 pub length-layout : (t : Table) → length (layout t) ≡ tableWords
 unfolding layout
-length-layout t = simp length-append (omega (arith, length-head (count t) (t .marks), length-rows mostServers (t .servers)))
+length-layout t = simp length-append (omega (arith, length-head t, length-rows mostServers (t .servers)))
 
 -- rows of no server are 0
 pub rows-none : (k : ℕ) → rows k [] ≡ replicate (rowWords * k) 0
@@ -76,23 +76,23 @@ unfolding layout replace
 server-in t zero h l m = absurd (omega arith)
 server-in t (suc j) h l m =
     let r = row-in mostServers (t .servers) j (omega arith) (omega arith) in
-    let top = head (count t) (t .marks) in
+    let top = head t in
     record {
       before = top ++ r .before;
       after = r .after;
-      place = simp length-append (omega (arith, length-head (count t) (t .marks), r .place));
+      place = simp length-append (omega (arith, length-head t, r .place));
       full = length-row;
       around = λ x.
-          ap (λ (n : ℕ). head n (t .marks) ++ rows mostServers (set (t .servers) j x)) (length-set (t .servers) j x)
+          ap (λ (n : ℕ). (n ∷ drop 1 top) ++ rows mostServers (set (t .servers) j x)) (length-set (t .servers) j x)
           ∙ ap (λ (l : List ℕ). top ++ l) (r .around x)
           ∙ sym (append-assoc top (r .before) (row x ++ r .after));
     }
 
 -- the marks' row stands first
-pub marks-in : (t : Table) → Framed 0 (head (count t)) (λ ms. layout (withMarks ms t))
+pub marks-in : (t : Table) → Framed 0 (λ ms. head (withMarks ms t)) (λ ms. layout (withMarks ms t))
 unfolding layout
 marks-in t =
-    record { before = []; after = rows mostServers (t .servers); place = refl; full = length-head (count t); around = λ ms. refl }
+    record { before = []; after = rows mostServers (t .servers); place = refl; full = λ ms. length-head (withMarks ms t); around = λ ms. refl }
 
 -- ---- reading back
 
@@ -162,5 +162,5 @@ table-back t h = λ d. withServers (servers d) (withMarks (marks-back t (h .mark
   where
     servers : serversOf (count t) (drop rowWords (layout t)) ≡ t .servers
     servers =
-        rw (drop-at (head (count t) (t .marks)) (rows mostServers (t .servers)) rowWords (length-head (count t) (t .marks)))
+        rw (drop-at (head t) (rows mostServers (t .servers)) rowWords (length-head t))
         (servers-back mostServers (t .servers) (h .few) (h .roomy))

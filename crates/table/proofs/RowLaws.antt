@@ -11,19 +11,26 @@ use Rattle.words.specs.Lists.{nth, replace}
 use Rattle.algorithm.specs.Table.{Entry, entry, Log, Server, Table, count, server, termAt, mark, changed, withMark, withRole, withTerm, withConfig, withEntry, withoutLast, last, positions}
 use Rattle.words.proofs.Lists.{length-replace}
 use Rattle.words.specs.Words.{words, Put}
-use Rattle.table.specs.Layout.{padded, terms, row, head, layout, tableIn, rowWords}
+use Rattle.table.specs.Layout.{padded, terms, row, head, tableIn, rowWords}
 use Rattle.table.specs.Slice.{Holds, Held, Became, Within}
 use Rattle.table.proofs.LayoutLaws.{marks-in}
 use Rattle.table.proofs.HeldLaws.{its-table, held, its-room, Open, opened, read, then, closed, frame, open-row, close-row}
 
--- ---- the number of servers
+-- ---- the number of servers, and the rule
 
-first-word : (t : Table) → getD (layout t) 0 0 ≡ count t
-unfolding layout
-first-word t = refl
+-- a word of row 0
+top-read : (b : List ℕ) (k r : ℕ) → Held b → k < rowWords → r ≡ getD (words b) k 0 → r ≡ getD (head (tableIn b)) k 0
+top-read b k r h l e =
+    let t = tableIn b in
+    e
+    ∙ ap (λ (n : ℕ). getD (words b) n 0) (sym (zero-add k))
+    ∙ read (marks-in t) k (opened (marks-in t) b (t .marks) (h .sized) (h .laid)) l
 
 pub count-read : (b : List ℕ) (r : ℕ) → Held b → r ≡ getD (words b) 0 0 → r ≡ count (tableIn b)
-count-read b r h e = e ∙ ap (λ (c : List ℕ). getD c 0 0) (h .laid) ∙ first-word (tableIn b)
+count-read b r h e = top-read b 0 r h (omega arith) e
+
+pub rule-read : (b : List ℕ) (r : ℕ) → Held b → r ≡ getD (words b) 1 0 → r ≡ tableIn b .rule
+rule-read b r h e = top-read b 1 r h (omega arith) e
 
 pub count-small : (b : List ℕ) (r : ℕ) → Held b → r ≡ getD (words b) 0 0 → r < 256
 count-small b r h e = omega (arith, count-read b r h e, h .shaped .few)
@@ -55,12 +62,9 @@ pub mark-read : (b : List ℕ) (p r : ℕ) → Held b → 1 ≤ p → p ≤ posi
 unfolding nth
 mark-read b zero r h k l e = absurd (omega arith)
 mark-read b (suc p) r h k l e =
-    let t = tableIn b in
-    e
-    ∙ ap (λ (n : ℕ). getD (words b) n 0) (sym (zero-add (5 + suc p)))
-    ∙ read (marks-in t) (5 + suc p) (opened (marks-in t) b (t .marks) (h .sized) (h .laid)) (omega arith)
-    ∙ ap (λ (n : ℕ). getD (head (count t) (t .marks)) n 0) (past-six p)
-    ∙ get-padded positions (t .marks) p (omega arith)
+    top-read b (5 + suc p) r h (omega arith) e
+    ∙ ap (λ (n : ℕ). getD (head (tableIn b)) n 0) (past-six p)
+    ∙ get-padded positions (tableIn b .marks) p (omega arith)
 
 -- ---- the last entry
 
@@ -155,10 +159,10 @@ set-padded (suc k) [] p v h = absurd (omega arith)
 set-padded (suc k) (x ∷ l) zero v h = refl
 set-padded (suc k) (x ∷ l) (suc p) v h = ap (λ (y : List ℕ). x ∷ y) (set-padded k l p v (omega arith))
 
-mark-row : (n : ℕ) (ms : List ℕ) (p v : ℕ) → 1 ≤ p → p ≤ length ms → set (head n ms) (5 + p) v ≡ head n (replace ms p v)
+mark-row : (t : Table) (p v : ℕ) → 1 ≤ p → p ≤ length (t .marks) → set (head t) (5 + p) v ≡ head (withMark t p v)
 unfolding replace
-mark-row n ms zero v k l = absurd (omega arith)
-mark-row n ms (suc p) v k l = rw (past-six p, set-padded positions ms p v (omega arith))
+mark-row t zero v k l = absurd (omega arith)
+mark-row t (suc p) v k l = rw (past-six p, set-padded positions (t .marks) p v (omega arith))
 
 pub mark-put : (b b' : List ℕ) (p v : ℕ) → Held b → 1 ≤ p → p ≤ positions → Put b b' (5 + p) v → Became b b' (withMark (tableIn b) p v)
 mark-put b b' p v h k l u = record { holds = holds; held = held holds; same = ap count (its-table holds) }
@@ -166,11 +170,11 @@ mark-put b b' p v h k l u = record { holds = holds; held = held holds; same = ap
     t : Table
     t = tableIn b
 
-    from : Open b (marks-in t) (head (count t) (t .marks))
+    from : Open b (marks-in t) (head t)
     from = opened (marks-in t) b (t .marks) (h .sized) (h .laid)
 
-    to : Open b' (marks-in t) (head (count t) (replace (t .marks) p v))
-    to = rw (mark-row (count t) (t .marks) p v k (omega (arith, h .shaped .marked))) at (then (marks-in t) from (omega arith) (rw (← zero-add (5 + p)) at u))
+    to : Open b' (marks-in t) (head (withMark t p v))
+    to = rw (mark-row t p v k (omega (arith, h .shaped .marked))) at (then (marks-in t) from (omega arith) (rw (← zero-add (5 + p)) at u))
 
     holds : Holds b' (withMark t p v)
     holds =

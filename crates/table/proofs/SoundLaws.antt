@@ -11,7 +11,7 @@ use lib.Pow.{pow-mono}
 use Rattle.members.specs.Members.{within}
 use Rattle.words.proofs.Tests.{Passes, both, less}
 use Rattle.words.specs.Lists.{every, between}
-use Rattle.algorithm.specs.Table.{Log, Server, Table, count, primary, secondary, withLog, ceiling, soundConfig, soundEntry, soundServer, positions, mostServers}
+use Rattle.algorithm.specs.Table.{Log, Server, Table, primary, secondary, withLog, ceiling, soundConfig, soundEntry, soundServer, positions, mostServers}
 use Rattle.words.proofs.Lists.{every-cons}
 use Rattle.algorithm.proofs.Sound.{SoundServer, SoundTable, server-sound}
 use Rattle.words.proofs.WordLaws.{FourBytes, words-append, words-zeros, words-between}
@@ -99,6 +99,6 @@ pub words-layout : {t : Table} → SoundTable t → FourBytes (layout t)
 unfolding layout
 words-layout {t} s =
     let marks = words-between 0 ceiling (omega arith) (t .marks) (subst Passes (marks-sound (t .marks)) (s .marks)) in
-    words-append (head (count t) (t .marks)) (rows mostServers (t .servers))
-    (omega (arith, s .few), (omega arith, (omega arith, (omega arith, (omega arith, (omega arith, words-padded positions (t .marks) marks))))))
+    words-append (head t) (rows mostServers (t .servers))
+    (omega (arith, s .few), (omega (arith, s .rule), (omega arith, (omega arith, (omega arith, (omega arith, words-padded positions (t .marks) marks))))))
     (words-rows (s .few) mostServers (t .servers) (s .servers))

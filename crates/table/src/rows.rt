@@ -41,12 +41,23 @@ pub const LOG: usize = 6;
 // How many words of a row are for entries, or for marks.
 pub const ENTRIES: usize = ROW - LOG;
 
+// The place of the rule in row 0, behind the number of servers.
+pub const RULE: usize = 1;
+
 // How many servers there are.
 pub fn count_of(t: &[u8]) -> u8
     requires { ⌜ Held (now t) ⌝ }
     ensures { λ r. ⌜ r ≡ count (tableIn (now (t .entry))) ⌝ }
 {
     word(t, 0) as u8
+}
+
+// The rule: 0 for rule 1, 1 for rule 2.
+pub fn rule_of(t: &[u8]) -> u32
+    requires { ⌜ Held (now t) ⌝ }
+    ensures { λ r. ⌜ r ≡ tableIn (now (t .entry)) .rule ⌝ }
+{
+    word(t, RULE)
 }
 
 // Word f of the row of server s.

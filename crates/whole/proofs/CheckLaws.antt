@@ -8,7 +8,7 @@ use lib.ListN.{getD, drop}
 use lib.Seq.{getD-drop, drop-drop}
 use borrow.Author.Tests.{le-leb, lt-leb}
 use Rattle.words.specs.Lists.{every, between, part}
-use Rattle.algorithm.specs.Table.{withLog, ceiling, soundServer, positions, mostServers}
+use Rattle.algorithm.specs.Table.{withLog, ceiling, soundServer, soundRule, positions, mostServers}
 use Rattle.table.specs.Slice.{figured}
 use Rattle.table.specs.declared.figures.Figures.{Figures}
 use Rattle.table.specs.Layout.{serverOf, rowWords}
@@ -82,9 +82,9 @@ module _ (c : List ℕ) (n : ℕ) where
       let none : n - k ≡ 0 = omega arith in
       sym (and-true ok) ∙ ap (λ (j : ℕ). ok && soundRows j n (drop (rowWords * (k + 1)) c)) (sym none) ∙ e .tells
 
--- ---- the four parts of a table's words
+-- ---- the parts of a table's words
 
-pub words-at : (c : List ℕ) (n : ℕ) (a b r z : Bool) → a ≡ every (between 0 0) (part c 1 5) → b ≡ every (between 0 ceiling) (part c 6 positions)
-    → r ≡ soundRows n n (drop rowWords c) → z ≡ every (between 0 0) (part c (rowWords * n + rowWords) (rowWords * mostServers - rowWords * n)) → (a && b && r && z) ≡ soundWords n c
+pub words-at : (c : List ℕ) (n w : ℕ) (a b r z : Bool) → w ≡ getD c 1 0 → a ≡ every (between 0 0) (part c 2 4) → b ≡ every (between 0 ceiling) (part c 6 positions)
+    → r ≡ soundRows n n (drop rowWords c) → z ≡ every (between 0 0) (part c (rowWords * n + rowWords) (rowWords * mostServers - rowWords * n)) → (soundRule w && a && b && r && z) ≡ soundWords n c
 unfolding soundWords
-words-at c n a b r z ea eb er ez = rw (ea, eb, er, ez)
+words-at c n w a b r z ew ea eb er ez = rw (ew, ea, eb, er, ez)

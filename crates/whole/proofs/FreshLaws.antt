@@ -1,4 +1,4 @@
--- A slice of 0 and a number of servers holds a blank table, and a blank table whose servers are given one set is a fresh one. Assumes nothing.
+-- A slice of 0, a number of servers and a rule holds a blank table, and a blank table whose servers are given one set is a fresh one. Assumes nothing.
 use Prim.Native.Nat.{ℕ, zero, suc, _+_, _-_, _*_, _≤_, _<_}
 use native.Mathlib.Numerals.{add-one}
 use native.Mathlib.Omega.{arith}
@@ -55,39 +55,41 @@ rows-absent zero k h = refl
 rows-absent (suc n) zero h = absurd (omega arith)
 rows-absent (suc n) (suc k) h = ap (λ (l : List ℕ). replicate rowWords 0 ++ l) (rows-absent n k (omega arith))
 
-layout-blank : (n : ℕ) → n ≤ mostServers → set (replicate tableWords 0) 0 n ≡ layout (blank n)
+layout-blank : (n R : ℕ) → n ≤ mostServers → set (set (replicate tableWords 0) 0 n) 1 R ≡ layout (blank n R)
 unfolding layout padded
-layout-blank n h = rw (length-replicate n absent, rows-absent n mostServers h, rows-none mostServers)
+layout-blank n R h = rw (length-replicate n absent, rows-absent n mostServers h, rows-none mostServers)
 
 roomy-replicate : (n : ℕ) → AllRoomy (replicate n absent)
 roomy-replicate zero = tt
 roomy-replicate (suc n) = (record { short = omega arith; small = omega arith }, roomy-replicate n)
 
-pub blank-holds : (b b₁ b₂ : List ℕ) (n : ℕ) → length b ≡ tableBytes → n ≤ mostServers → b₁ ≡ replicate (length b) 0 → Put b₁ b₂ 0 n → Holds b₂ (blank n)
-blank-holds b b₁ b₂ n z h e p =
+pub blank-holds : (b b₁ b₂ b₃ : List ℕ) (n R : ℕ) → length b ≡ tableBytes → n ≤ mostServers → b₁ ≡ replicate (length b) 0 → Put b₁ b₂ 0 n → Put b₂ b₃ 1 R → Holds b₃ (blank n R)
+blank-holds b b₁ b₂ b₃ n R z h e p q =
     let cleared : b₁ ≡ replicate tableBytes 0 = e ∙ ap (λ (k : ℕ). replicate k 0) z in
     record {
-      sized = p .sized ∙ ap length cleared ∙ length-replicate {A = ℕ} tableBytes 0;
-      laid = p .word ∙ ap (λ (l : List ℕ). set l 0 n) (ap words cleared ∙ words-zero tableWords) ∙ layout-blank n h;
+      sized = q .sized ∙ p .sized ∙ ap length cleared ∙ length-replicate {A = ℕ} tableBytes 0;
+      laid =
+          q .word
+          ∙ ap (λ (l : List ℕ). set l 1 R) (p .word ∙ ap (λ (l : List ℕ). set l 0 n) (ap words cleared ∙ words-zero tableWords))
+          ∙ layout-blank n R h;
       shaped = record { few = omega (arith, length-replicate n absent); roomy = roomy-replicate n; marked = length-replicate {A = ℕ} positions 0 };
     }
 
 -- ---- a fresh table
 
--- of a blank table's n servers the first k have the set m
-abbrev partly : ℕ → ℕ → ℕ → Table
-partly n m k = withServers (replicate k (freshServer m) ++ replicate (n - k) absent) (blank n)
+-- the table with n servers, of which the first k have the set m and nothing is known of the others
+abbrev partly : Table → ℕ → ℕ → ℕ → Table
+partly t n m k = withServers (replicate k (freshServer m) ++ replicate (n - k) absent) t
 
-pub record Given (b : List ℕ) (n m k : ℕ) : Type 0 where
+-- of the servers of the table in the slice d, which has become b, the first k have the set m
+pub record Given (d b : List ℕ) (n m k : ℕ) : Type 0 where
   pub within : k ≤ n
-  pub holds : Holds b (partly n m k)
+  pub holds : Holds b (partly (tableIn d) n m k)
 
 -- one server more
-partly-next : (n m k : ℕ) → k < n
-    → changed (partly n m k) (k + 1) (withConfig (configOf m 1 0))
-    ≡ partly n m (k + 1)
+partly-next : (t : Table) (n m k : ℕ) → k < n → changed (partly t n m k) (k + 1) (withConfig (configOf m 1 0)) ≡ partly t n m (k + 1)
 unfolding nth replace
-partly-next n m k h =
+partly-next t n m k h =
     let F = freshServer m in
     let front = replicate k F in
     let rest = replicate (n - suc k) absent in
@@ -98,14 +100,9 @@ partly-next n m k h =
     sym (append-snoc front F rest) ∙ ap (λ (l : List Server). l ++ rest) (replicate-append-replicate k 1 F ∙ ap (λ (j : ℕ). replicate j F) (add-one k)) in
     rw (add-one k, left, there, put, longer)
 
-module _ (b : List ℕ) (n m : ℕ) where
-  pub given-none : Holds b (blank n) → Given b n m 0
-  given-none h =
-      let all : n - 0 ≡ n = omega arith in
-      record { within = omega arith; holds = rw all h }
-
-  module _ (k : ℕ) (g : Given b n m k) where
-    many : count (partly n m k) ≡ n
+module _ (d b : List ℕ) (n m : ℕ) where
+  module _ (k : ℕ) (g : Given d b n m k) where
+    many : count (partly (tableIn d) n m k) ≡ n
     many = simp (length-append, length-replicate) (omega (arith, g .within))
 
     pub given-held : Held b
@@ -116,19 +113,32 @@ module _ (b : List ℕ) (n m : ℕ) where
 
     pub given-more : (b' : List ℕ) → k < n
         → Became b b' (changed (tableIn b) (k + 1) (withConfig (configOf m 1 0)))
-        → Given b' n m (k + 1)
+        → Given d b' n m (k + 1)
     given-more b' h c =
         record {
           within = omega arith;
-          holds = subst (λ (t : Table). Holds b' t) (partly-next n m k h) (rw (its-table (g .holds)) at (c .holds));
+          holds = subst (λ (t : Table). Holds b' t) (partly-next (tableIn d) n m k h) (rw (its-table (g .holds)) at (c .holds));
         }
 
-    pub given-all : n ≤ k → Holds b (fresh n m)
+    pub given-all : n ≤ k → Holds b (withServers (replicate n (freshServer m)) (tableIn d))
     given-all h =
         let all : k ≡ n = omega (arith, g .within) in
         let none : n - k ≡ 0 = omega arith in
-        let every : partly n m k .servers ≡ replicate n (freshServer m) =
+        let every : partly (tableIn d) n m k .servers ≡ replicate n (freshServer m) =
         ap (λ (j : ℕ). replicate k (freshServer m) ++ replicate j absent) none
         ∙ append-nil (replicate k (freshServer m))
         ∙ ap (λ (j : ℕ). replicate j (freshServer m)) all in
-        subst (λ (ss : List Server). Holds b (withServers ss (blank n))) every (g .holds)
+        subst (λ (ss : List Server). Holds b (withServers ss (tableIn d))) every (g .holds)
+
+pub given-none : (b : List ℕ) (n m : ℕ) → Held b → tableIn b .servers ≡ replicate n absent → Given b b n m 0
+given-none b n m h e =
+    let all : n - 0 ≡ n = omega arith in
+    record { within = omega arith; holds = subst (λ (ss : List Server). Holds b (withServers ss (tableIn b))) (e ∙ ap (λ (j : ℕ). replicate j absent) (sym all)) h }
+
+-- a blank table, and what it is once its servers are given a set
+module _ (b : List ℕ) (n R : ℕ) (h : Holds b (blank n R)) where
+  pub blank-servers : tableIn b .servers ≡ replicate n absent
+  blank-servers = ap (λ (t : Table). t .servers) (its-table h)
+
+  pub given-fresh : (b' : List ℕ) (m : ℕ) → Holds b' (withServers (replicate n (freshServer m)) (tableIn b)) → Holds b' (fresh n m R)
+  given-fresh b' m g = rw (its-table h) at g

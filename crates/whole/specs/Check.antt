@@ -5,7 +5,7 @@ use mathlib.Core.List.{List, []}
 use lib.Dec.{leb}
 use lib.ListN.{getD, drop}
 use Rattle.words.specs.Lists.{every, between, part}
-use Rattle.algorithm.specs.Table.{withLog, ceiling, positions, mostServers, soundServer}
+use Rattle.algorithm.specs.Table.{withLog, ceiling, positions, mostServers, soundServer, soundRule}
 use Rattle.table.specs.Layout.{rowWords, serverOf}
 
 -- d begins with the row of a server of a table of n: its five figures, its log's length, and its entries, 0 beyond the length
@@ -25,7 +25,8 @@ soundRows (suc k) n d = soundRow n d && soundRows k n (drop rowWords d)
 -- c is, but for word 0, the words of a table of n servers
 unfoldable pub soundWords : ℕ → List ℕ → Bool
 soundWords n c =
-    every (between 0 0) (part c 1 5)
+    soundRule (getD c 1 0)
+    && every (between 0 0) (part c 2 4)
     && every (between 0 ceiling) (part c 6 positions)
     && soundRows n n (drop rowWords c)
     && every (between 0 0) (part c (rowWords * n + rowWords) (rowWords * mostServers - rowWords * n))

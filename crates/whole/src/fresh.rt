@@ -2,11 +2,12 @@
 ghost use mathlib.Core.Path.{_≡_};
 ghost use Prim.Native.Nat.{_≤_};
 ghost use lib.ListN.{length, replicate};
-ghost use Rattle.algorithm.specs.Table.{fresh, mostServers};
-ghost use Rattle.table.specs.Layout.{tableBytes, stored};
-ghost use Rattle.table.specs.Slice.{Holds, blank};
+ghost use Rattle.algorithm.specs.Table.{absent, withServers, freshServer, fresh, mostServers};
+ghost use Rattle.table.specs.Layout.{tableBytes, stored, tableIn};
+ghost use Rattle.table.specs.Slice.{Holds, Held, blank};
 use algorithm::Term;
 use algorithm::Version;
+use table::rows::RULE;
 use table::rows::put_config;
 use words::put;
 
@@ -21,18 +22,20 @@ fn zero(t: &mut [u8])
 }
 
 // A table of n servers of which nothing is known yet, for a reader to fill.
-pub fn fill_blank(t: &mut [u8], n: u8)
+pub fn fill_blank(t: &mut [u8], n: u8, rule: u8)
     requires { ⌜ (length (now t) ≡ tableBytes) × (n ≤ mostServers) ⌝ }
-    ensures { λ _. ⌜ Holds (now (t .exit)) (blank n) ⌝ }
+    ensures { λ _. ⌜ Holds (now (t .exit)) (blank n rule) ⌝ }
 {
     zero(t);
     put(t, 0, n as u32);
+    put(t, RULE, rule as u32);
 }
 
 // Gives the blank servers one set, and so a configuration.
 fn give_set(t: &mut [u8], n: u8, set: u16)
-    requires { ⌜ Holds (now t) (blank n) ⌝ }
-    ensures { λ _. ⌜ Holds (now (t .exit)) (fresh n set) ⌝ }
+    requires { ⌜ Held (now t) ⌝ }
+    requires { ⌜ tableIn (now t) .servers ≡ replicate n absent ⌝ }
+    ensures { λ _. ⌜ Holds (now (t .exit)) (withServers (replicate n (freshServer set)) (tableIn (now (t .entry)))) ⌝ }
 {
     let mut k: u8 = 0;
     while k < n {
@@ -41,11 +44,11 @@ fn give_set(t: &mut [u8], n: u8, set: u16)
     }
 }
 
-// A fresh table of n servers with one set.
-pub fn fill_fresh(t: &mut [u8], n: u8, set: u16)
+// A fresh table of n servers with one set, under a rule.
+pub fn fill_fresh(t: &mut [u8], n: u8, set: u16, rule: u8)
     requires { ⌜ (length (now t) ≡ tableBytes) × (n ≤ mostServers) ⌝ }
-    ensures { λ _. ⌜ now (t .exit) ≡ stored (fresh n set) ⌝ }
+    ensures { λ _. ⌜ now (t .exit) ≡ stored (fresh n set rule) ⌝ }
 {
-    fill_blank(t, n);
+    fill_blank(t, n, rule);
     give_set(t, n, set);
 }

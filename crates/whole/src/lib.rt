@@ -8,6 +8,7 @@ ghost use Rattle.words.specs.Words.{words};
 ghost use Rattle.table.specs.Layout.{rowWords, tableBytes, serverOf, whole};
 ghost use Rattle.whole.specs.Check.{soundRow, soundRows, soundWords};
 use algorithm::CEILING;
+use algorithm::RULE_2;
 use algorithm::SERVERS;
 use algorithm::Term;
 use algorithm::Version;
@@ -20,6 +21,7 @@ use table::rows::LENGTH;
 use table::rows::LOG;
 use table::rows::ROLE;
 use table::rows::ROW;
+use table::rows::RULE;
 use table::rows::SET;
 use table::rows::TERM;
 use table::rows::VERSION;
@@ -34,6 +36,11 @@ const LONGEST: u32 = ENTRIES as u32;
 const SERVER_WORDS: usize = SERVERS as usize * ROW;
 
 const MOST: u32 = SERVERS as u32;
+
+// The words of row 0 between the rule and the marks.
+const SPARE: usize = RULE + 1;
+
+const SPARE_WORDS: usize = LOG - SPARE;
 
 // The figures of server s of n are sound.
 fn row_figures_sound(t: &[u8], n: u8, s: usize) -> bool
@@ -87,11 +94,12 @@ fn words_sound(t: &[u8], n: u8) -> bool
     ensures { λ r. ⌜ r ≡ soundWords n (words (now (t .entry))) ⌝ }
 {
     let used = ROW * n as usize;
-    let spare = all_between(t, 1, 5, 0, 0);
+    let rule = word(t, RULE);
+    let spare = all_between(t, SPARE, SPARE_WORDS, 0, 0);
     let marks = all_between(t, LOG, ENTRIES, 0, CEILING);
     let rows = rows_sound(t, n);
     let beyond = all_between(t, used + ROW, SERVER_WORDS - used, 0, 0);
-    spare & marks & rows & beyond
+    (rule <= RULE_2) & spare & marks & rows & beyond
 }
 
 // The slice is a table that breaks no rule.

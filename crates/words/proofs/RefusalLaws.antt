@@ -1,14 +1,14 @@
 -- What a list of refusals says by the first that holds, and how a judge's tests give that one. Assumes nothing.
 use Prim.Native.Nat.{ℕ}
 use mathlib.Core.Bool.{Bool, true, false, cond, not, _||_, _&&_}
-use mathlib.Core.List.{List, [], _∷_, _++_, append-nil}
+use mathlib.Core.List.{List, [], _∷_, _++_, append-nil, map}
 use mathlib.Core.Path.{_≡_, refl, sym, ap, ap₂, _∙_}
 use lib.Dec.{T, ltb, eqb}
 use borrow.Author.Needs.{needs}
 use mir.Facts.{and-yes, eqb-no}
 use Rattle.words.specs.Lists.{every}
-use Rattle.words.specs.Refusal.{Refusal, refuse, first, holdsIn}
-use Rattle.words.proofs.Tests.{Fails, false-fails, and-told}
+use Rattle.words.specs.Refusal.{Shown, nothing, Refusal, refuseShowing, refuse, first, firstShown, Answer, answer, given, holdsIn}
+use Rattle.words.proofs.Tests.{Passes, Fails, false-fails, and-told}
 use Rattle.words.proofs.Choice.{cond-elim}
 
 -- ---- a list of refusals, read by their numbers
@@ -55,29 +55,61 @@ fails-before k (r ∷ xs) ys h = go (eqb (r .number) k) (fails-before k xs ys) h
 pub none-before : (xs ys : List Refusal) → NoneHold (xs ++ ys) → NoneHold xs
 none-before xs ys none k = fails-before k xs ys (none k)
 
--- ---- the first refusal of two lists
+-- ---- what two lists give
 
-pub first-held : (xs ys : List Refusal) → (first xs ≡ 0 → ⊥) → first (xs ++ ys) ≡ first xs
-unfolding first
-first-held [] ys h = absurd (h refl)
-first-held (r ∷ xs) ys h = go (r .holds) h (first-held xs ys)
+pub given-held : (xs ys : List Refusal) → (first xs ≡ 0 → ⊥) → given (xs ++ ys) ≡ given xs
+unfolding first firstShown
+given-held [] ys h = absurd (h refl)
+given-held (r ∷ xs) ys h = go (r .holds) h (given-held xs ys)
   where
-    go : (b : Bool) → (cond b (r .number) (first xs) ≡ 0 → ⊥) → ((first xs ≡ 0 → ⊥) → first (xs ++ ys) ≡ first xs)
-        → cond b (r .number) (first (xs ++ ys)) ≡ cond b (r .number) (first xs)
+    go : (b : Bool) → (cond b (r .number) (first xs) ≡ 0 → ⊥) → ((first xs ≡ 0 → ⊥) → given (xs ++ ys) ≡ given xs)
+        → answer (cond b (r .number) (first (xs ++ ys))) (cond b (r .shows) (firstShown (xs ++ ys))) ≡ answer (cond b (r .number) (first xs)) (cond b (r .shows) (firstShown xs))
     go true h rest = refl
     go false h rest = rest h
 
-pub first-none : (xs ys : List Refusal) → T (lacks 0 xs) → first xs ≡ 0 → first (xs ++ ys) ≡ first ys
-unfolding first every
-first-none [] ys p e = refl
-first-none (r ∷ xs) ys p e =
+pub given-none : (xs ys : List Refusal) → T (lacks 0 xs) → first xs ≡ 0 → given (xs ++ ys) ≡ given ys
+unfolding first firstShown every
+given-none [] ys p e = refl
+given-none (r ∷ xs) ys p e =
     let (here, later) = and-yes (not (eqb (r .number) 0)) (lacks 0 xs) p in
-    go (r .holds) here e (first-none xs ys later)
+    go (r .holds) here e (given-none xs ys later)
   where
-    go : (b : Bool) → T (not (eqb (r .number) 0)) → cond b (r .number) (first xs) ≡ 0 → (first xs ≡ 0 → first (xs ++ ys) ≡ first ys)
-        → cond b (r .number) (first (xs ++ ys)) ≡ first ys
+    go : (b : Bool) → T (not (eqb (r .number) 0)) → cond b (r .number) (first xs) ≡ 0 → (first xs ≡ 0 → given (xs ++ ys) ≡ given ys)
+        → answer (cond b (r .number) (first (xs ++ ys))) (cond b (r .shows) (firstShown (xs ++ ys))) ≡ given ys
     go true here e rest = absurd (eqb-no here e)
     go false here e rest = rest e
+
+-- ---- refusals that show nothing
+
+-- the same refusals, each showing nothing; a list that is written out with `refuse` is its own
+abbrev pub quiet : List Refusal → List Refusal
+quiet rs = map (λ r. refuse (r .number) (r .holds)) rs
+
+pub quiet-shown : (rs : List Refusal) → firstShown (quiet rs) ≡ nothing
+unfolding firstShown
+quiet-shown [] = refl
+quiet-shown (r ∷ rs) = cond-elim (λ (s : Shown). s ≡ nothing) (r .holds) (λ _. refl) (λ _. quiet-shown rs)
+
+-- ---- what is said of each is said of what is given
+
+-- P is said of each refusal that holds
+abbrev pub EachHeld : (Answer → Type 0) → List Refusal → Type 0
+EachHeld P [] = Unit {0}
+EachHeld P (r ∷ rs) = (Passes (r .holds) → P (answer (r .number) (r .shows))) × EachHeld P rs
+
+pub each-append : (P : Answer → Type 0) (xs ys : List Refusal) → EachHeld P xs → EachHeld P ys → EachHeld P (xs ++ ys)
+each-append P [] ys e f = f
+each-append P (r ∷ xs) ys (h, e) f = (h, each-append P xs ys e f)
+
+pub given-each : (P : Answer → Type 0) (rs : List Refusal) → P (answer 0 nothing) → EachHeld P rs → P (given rs)
+unfolding first firstShown
+given-each P [] none e = none
+given-each P (r ∷ rs) none (h, e) = go (r .holds) h (given-each P rs none e)
+  where
+    go : (b : Bool) → (Passes b → P (answer (r .number) (r .shows))) → P (given rs)
+        → P (answer (cond b (r .number) (first rs)) (cond b (r .shows) (firstShown rs)))
+    go true h rest = h (record { yes = tt })
+    go false h rest = rest
 
 -- ---- their order
 
@@ -93,14 +125,22 @@ unfolding first
 none = refl
 
 -- r is the code's answer to the first refusal's test
+module _ (k : ℕ) (b : Bool) (s : Shown) (rs : List Refusal) (r : Bool) (e : r ≡ b) where
+  pub given-hit : r ≡ true → given (refuseShowing k b s ∷ rs) ≡ answer k s
+  unfolding first firstShown
+  given-hit o = rw (sym e ∙ o)
+
+  pub given-miss : r ≡ false → given (refuseShowing k b s ∷ rs) ≡ given rs
+  unfolding first firstShown
+  given-miss o = rw (sym e ∙ o)
+
+-- the same of the number alone
 module _ (k : ℕ) (b : Bool) (rs : List Refusal) (r : Bool) (e : r ≡ b) where
   pub hit : r ≡ true → k ≡ first (refuse k b ∷ rs)
-  unfolding first
-  hit o = rw (sym e ∙ o)
+  hit o = sym (ap (λ (a : Answer). a .number) (given-hit k b nothing rs r e o))
 
   pub miss : (m : ℕ) → r ≡ false → m ≡ first rs → m ≡ first (refuse k b ∷ rs)
-  unfolding first
-  miss m o f = rw (sym e ∙ o) f
+  miss m o f = f ∙ sym (ap (λ (a : Answer). a .number) (given-miss k b nothing rs r e o))
 
 -- an answer that the code has turned round, or joined to another
 pub turned : (r b : Bool) → r ≡ b → not r ≡ not b

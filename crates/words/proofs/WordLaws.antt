@@ -3,13 +3,14 @@ use Prim.Native.Nat.{ℕ, zero, suc, _+_, _*_, _/_, _%_, _≤_, _<_}
 use native.Mathlib.Nat.{div-div-eq-div-mul, div-add-mod'}
 use native.Mathlib.Omega.{arith}
 use mathlib.Core.Path.{_≡_, refl, ap, sym, _∙_}
-use mathlib.Core.List.{List, [], _∷_, _++_}
+use mathlib.Core.List.{List, [], _∷_, _++_, append-assoc}
 use lib.Dec.{leb}
-use lib.ListN.{length, getD, set, replicate, length-set}
+use lib.ListN.{length, getD, set, take, drop, replicate, length-set, length-append}
+use lib.Seq.{length-take-le, take-at, drop-drop, drop-append-add}
 use Rattle.words.proofs.Tests.{Passes, both, at-most}
 use Rattle.words.specs.Lists.{every, between}
 use Rattle.words.proofs.Lists.{every-cons}
-use Rattle.words.specs.Words.{wordOf, words, bytes, putWord, Put}
+use Rattle.words.specs.Words.{wordOf, words, bytes, putWord, Put, valueOf, eight, putEight}
 
 -- four bytes further on
 past : (k i : ℕ) → 4 * suc k + i ≡ suc (suc (suc (suc (4 * k + i))))
@@ -136,3 +137,46 @@ words-between low high small [] h = tt
 words-between low high small (x ∷ l) h =
     let (here, rest) = every-cons (between low high) x l h in
     (omega (arith, at-most {a = x} {b = high} (both {a = leb low x} here .1)), words-between low high small l rest)
+
+-- ---- eight bytes
+
+-- four bytes put stand between what was before them and what was behind
+stores-between : (b : List ℕ) (k p q u v : ℕ) → 4 * k + 4 ≤ length b
+    → stores b k p q u v ≡ take (4 * k) b ++ (p ∷ q ∷ u ∷ v ∷ drop (4 * k + 4) b)
+stores-between [] k p q u v h = absurd (omega arith)
+stores-between (x ∷ []) k p q u v h = absurd (omega arith)
+stores-between (x ∷ y ∷ []) k p q u v h = absurd (omega arith)
+stores-between (x ∷ y ∷ z ∷ []) k p q u v h = absurd (omega arith)
+stores-between (x ∷ y ∷ z ∷ w ∷ r) zero p q u v h = refl
+stores-between (x ∷ y ∷ z ∷ w ∷ r) (suc k) p q u v h =
+    rw (past k 1, past k 2, past k 3, past k 4, past-0 k) (ap (λ (l : List ℕ). x ∷ y ∷ z ∷ w ∷ l) (stores-between r k p q u v (omega arith)))
+
+-- two numbers of four bytes put one behind the other are one of eight
+pub eight-put : (b b₁ b₂ : List ℕ) (k v : ℕ) → 8 * k + 8 ≤ length b → Put b b₁ (2 * k) (v % 4294967296) → Put b₁ b₂ (2 * k + 1) (v / 4294967296)
+    → b₂ ≡ putEight b k v
+unfolding bytes
+eight-put b b₁ b₂ k v h low high =
+    let at : 4 * (2 * k) ≡ 8 * k = omega arith in
+    let next : 4 * (2 * k + 1) ≡ 8 * k + 4 = omega arith in
+    let end : 8 * k + 4 + 4 ≡ 8 * k + 8 = omega arith in
+    let front : List ℕ = take (8 * k) b ++ bytes (v % 4294967296 ∷ []) in
+    let rest : List ℕ = drop (8 * k + 4) b in
+    let long : length front ≡ 8 * k + 4 = omega (arith, length-append (take (8 * k) b) (bytes (v % 4294967296 ∷ [])), length-take-le (8 * k) b (omega arith)) in
+    let first : b₁ ≡ front ++ rest =
+    low .bytes ∙ stores-between b (2 * k) _ _ _ _ (omega arith) ∙ rw at (sym (append-assoc (take (8 * k) b) (bytes (v % 4294967296 ∷ [])) rest)) in
+    let before : take (8 * k + 4) b₁ ≡ front = ap (take (8 * k + 4)) first ∙ take-at front rest (8 * k + 4) long in
+    let behind : drop (8 * k + 4 + 4) b₁ ≡ drop (8 * k + 8) b =
+    ap (drop (8 * k + 4 + 4)) first ∙ ap (λ (n : ℕ). drop (n + 4) (front ++ rest)) (sym long) ∙ drop-append-add front rest 4 ∙ drop-drop 4 (8 * k + 4) b ∙ rw end in
+    high .bytes ∙ stores-between b₁ (2 * k + 1) _ _ _ _ (omega (arith, low .sized))
+    ∙ rw (next, before, behind) (append-assoc (take (8 * k) b) (bytes (v % 4294967296 ∷ [])) _)
+
+-- eight bytes are those of their number
+pub eight-value : (a b c d e f g h : ℕ) → a < 256 → b < 256 → c < 256 → d < 256 → e < 256 → f < 256 → g < 256 → h < 256
+    → eight (valueOf (a ∷ b ∷ c ∷ d ∷ e ∷ f ∷ g ∷ h ∷ [])) ≡ a ∷ b ∷ c ∷ d ∷ e ∷ f ∷ g ∷ h ∷ []
+unfolding bytes valueOf
+eight-value a b c d e f g h ha hb hc hd he hf hg hh =
+    let value : ℕ = valueOf (a ∷ b ∷ c ∷ d ∷ e ∷ f ∷ g ∷ h ∷ []) in
+    let low : value % 4294967296 ≡ wordOf a b c d = omega arith in
+    let high : value / 4294967296 ≡ wordOf e f g h = omega arith in
+    rw (low, high, byte-0 a b c d ha, byte-1 a b c d ha hb, byte-2 a b c d ha hb hc, byte-3 a b c d ha hb hc hd)
+    (rw (byte-0 e f g h he, byte-1 e f g h he hf, byte-2 e f g h he hf hg, byte-3 e f g h he hf hg hh))

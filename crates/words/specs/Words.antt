@@ -1,8 +1,8 @@
--- Numbers of two and of four bytes, low byte first. Assumes nothing.
+-- Numbers of two, of four and of eight bytes, low byte first. Assumes nothing.
 use Prim.Native.Nat.{ℕ, _+_, _*_, _/_, _%_}
 use mathlib.Core.Path.{_≡_}
-use mathlib.Core.List.{List, [], _∷_}
-use lib.ListN.{length, getD, set}
+use mathlib.Core.List.{List, [], _∷_, _++_}
+use lib.ListN.{length, getD, set, take, drop}
 
 -- ---- two bytes
 
@@ -47,3 +47,18 @@ pub record Put (b b' : List ℕ) (k v : ℕ) : Type 0 where
   pub bytes : b' ≡ putWord b k v
   pub sized : length b' ≡ length b
   pub word : words b' ≡ set (words b) k v
+
+-- ---- eight bytes
+
+-- the number of some bytes
+unfoldable pub valueOf : List ℕ → ℕ
+valueOf [] = 0
+valueOf (b ∷ l) = b + 256 * valueOf l
+
+-- the eight bytes of a number
+abbrev pub eight : ℕ → List ℕ
+eight v = bytes (v % 4294967296 ∷ v / 4294967296 ∷ [])
+
+-- b with the eight bytes of v for its k-th eight, the first being 0
+abbrev pub putEight : List ℕ → ℕ → ℕ → List ℕ
+putEight b k v = take (8 * k) b ++ (eight v ++ drop (8 * k + 8) b)

@@ -1,9 +1,9 @@
-// Numbers in a slice, of two bytes and of four (words), the low byte first.
+// Numbers in a slice, of two bytes, of four (words) and of eight, the low byte first.
 ghost use mathlib.Core.Path.{_≡_};
 ghost use Prim.Native.Nat.{_+_, _*_, _≤_, _<_};
 ghost use lib.ListN.{length, getD};
 ghost use Rattle.words.specs.Lists.{every, between, part};
-ghost use Rattle.words.specs.Words.{pairOf, halfAt, wordOf, words, Put};
+ghost use Rattle.words.specs.Words.{pairOf, halfAt, wordOf, words, Put, putEight};
 
 // A number of two bytes, the low one first.
 pub fn pair(low: u8, high: u8) -> u16
@@ -52,6 +52,15 @@ pub fn put(t: &mut [u8], k: usize, v: u32)
     t[at + 1] = (v / 256 % 256) as u8;
     t[at + 2] = (v / 65536 % 256) as u8;
     t[at + 3] = (v / 16777216 % 256) as u8;
+}
+
+// Puts v into the k-th eight bytes of the slice.
+pub fn put_eight(t: &mut [u8], k: usize, v: u64)
+    requires { ⌜ 8 * k + 8 ≤ length (now t) ⌝ }
+    ensures { λ _. ⌜ now (t .exit) ≡ putEight (now (t .entry)) k v ⌝ }
+{
+    put(t, 2 * k, (v % 4294967296) as u32);
+    put(t, 2 * k + 1, (v / 4294967296) as u32);
 }
 
 // Each of the n words from word k is from low to high. The answers of the tests are joined without branches, so that the loop can

@@ -10,9 +10,9 @@ use lib.Dec.{T, eqb, eqb→eq}
 use lib.ListN.{length, getD, take, drop, length-append, length-drop, length-map, List·getD-append, List·getD-map}
 use lib.Seq.{take-all, take-add, getD-drop, getD-at, length-take-le}
 use Rattle.words.proofs.Tests.{Passes, both, equal, three}
-use Rattle.algorithm.specs.Table.{absent}
+use Rattle.algorithm.specs.Table.{absent, soundRule}
 use Rattle.words.specs.Words.{half}
-use Rattle.image.specs.Contents.{firstBody, countIn, offset, size, start, body, serverIn, soundAt, soundBodies}
+use Rattle.image.specs.Contents.{firstBody, countIn, ruleIn, offset, size, start, body, serverIn, soundAt, soundBodies}
 use Rattle.words.proofs.BelowLaws.{all-below}
 use Rattle.image.specs.Image.{opening, serverBody, bodies, contents, image}
 use Rattle.reader.specs.Reader.{readReply, serversTo, readTable, readEnd}
@@ -63,8 +63,11 @@ module _ (im slice : List ℕ) (e : readReply im slice ≡ 0) (byte : Bytes im) 
   read : Readable im slice
   read = readable im slice e
 
+  counted : length (serversTo n im) ≡ n
+  counted = length-servers n im
+
   many : length bs ≡ n + 1
-  many = omega (arith, length-map (serversTo n im) serverBody, length-servers n im)
+  many = omega (arith, length-map (serversTo n im) serverBody, counted)
 
   module _ (k : ℕ) (l : k ≤ n) where
     length-part : length (body im k) ≡ size im k
@@ -137,18 +140,18 @@ module _ (im slice : List ℕ) (e : readReply im slice ≡ 0) (byte : Bytes im) 
   say : (k v : ℕ) → T (is k v) → getD im k 0 ≡ v
   say k v = eqb→eq (getD im k 0) v
 
-  opens : take 8 im ≡ opening n
+  opens : take 8 im ≡ opening (readTable im)
   opens =
-      let (most, g, h) = three (is 0 83 && is 1 73 && is 2 84 && is 3 69 && is 5 0) (is 6 0) (is 7 0) (read .opened .yes) in
+      let (most, h, _) = three (is 0 83 && is 1 73 && is 2 84 && is 3 69 && is 5 0) (is 7 0) (soundRule (ruleIn im)) (read .opened .yes) in
       let (some, d, f) = three (is 0 83 && is 1 73 && is 2 84) (is 3 69) (is 5 0) most in
       let (a, b, c) = three (is 0 83) (is 1 73) (is 2 84) some in
       let long = read .named .complete in
       take-add 4 4 im
       ∙ ap₂ _++_ (take-four im (omega arith)) (four-at im 4 (omega arith))
-      ∙ (λ i. say 0 83 a i ∷ say 1 73 b i ∷ say 2 84 c i ∷ say 3 69 d i ∷ n ∷ say 5 0 f i ∷ say 6 0 g i ∷ say 7 0 h i ∷ [])
+      ∙ (λ i. say 0 83 a i ∷ say 1 73 b i ∷ say 2 84 c i ∷ say 3 69 d i ∷ sym counted i ∷ say 5 0 f i ∷ ruleIn im ∷ say 7 0 h i ∷ [])
 
   -- with the entries of the first k bodies
-  front : (k : ℕ) → k ≤ n + 1 → opening n ++ contents (firstBody n) (take k bs) ≡ take (8 + 4 * k) im
+  front : (k : ℕ) → k ≤ n + 1 → opening (readTable im) ++ contents (firstBody n) (take k bs) ≡ take (8 + 4 * k) im
   unfolding contents
   front zero l = sym opens
   front (suc k) l =
@@ -158,8 +161,8 @@ module _ (im slice : List ℕ) (e : readReply im slice ≡ 0) (byte : Bytes im) 
       let next : 8 + 4 * k + 4 ≡ 8 + 4 * suc k = omega arith in
       let sizes : length (getD bs k d) ≡ size im k = ap length (copied k here) ∙ length-part k here in
       let entry = half (firstBody n + length (flatten (take k bs))) ++ half (length (getD bs k d)) in
-      ap (λ (x : List ℕ). opening n ++ x) (contents-more d (firstBody n) bs k (omega (arith, many)))
-      ∙ sym (append-assoc (opening n) before entry)
+      ap (λ (x : List ℕ). opening (readTable im) ++ x) (contents-more d (firstBody n) bs k (omega (arith, many)))
+      ∙ sym (append-assoc (opening (readTable im)) before entry)
       ∙ ap (λ (x : List ℕ). x ++ entry) (front k (omega arith))
       ∙ (λ i. take (8 + 4 * k) im ++ (half (begins k here i) ++ half (sizes i)))
       ∙ ap (λ (x : List ℕ). take (8 + 4 * k) im ++ x) (entry-copied k here)
@@ -169,12 +172,11 @@ module _ (im slice : List ℕ) (e : readReply im slice ≡ 0) (byte : Bytes im) 
   pub image-copied : image (readTable im) ≡ take (readEnd im) im
   unfolding image
   image-copied =
-      let counted : length (serversTo n im) ≡ n = length-servers n im in
       let all : take (n + 1) bs ≡ bs = take-all (n + 1) bs (omega (arith, many)) in
       let whole : 8 + 4 * (n + 1) ≡ firstBody n = omega arith in
-      let laid : opening n ++ contents (firstBody n) bs ≡ take (firstBody n) im = rw (all, whole) at (front (n + 1) (omega arith)) in
+      let laid : opening (readTable im) ++ contents (firstBody n) bs ≡ take (firstBody n) im = rw (all, whole) at (front (n + 1) (omega arith)) in
       let ends : take (firstBody n) im ++ flatten bs ≡ take (readEnd im) im = rw (all, add-one n) at (upto (n + 1) (omega arith)) in
-      ap (λ (j : ℕ). opening j ++ (contents (firstBody j) bs ++ flatten bs)) counted
-      ∙ sym (append-assoc (opening n) (contents (firstBody n) bs) (flatten bs))
+      ap (λ (j : ℕ). opening (readTable im) ++ (contents (firstBody j) bs ++ flatten bs)) counted
+      ∙ sym (append-assoc (opening (readTable im)) (contents (firstBody n) bs) (flatten bs))
       ∙ ap (λ (x : List ℕ). x ++ flatten bs) laid
       ∙ ends

@@ -126,15 +126,15 @@ module _ (t : Table) (b : List ℕ) (from : ℕ) where
 
 -- ---- the image
 
-pub opening-wrote : (b b₁ b₂ b₃ : List ℕ) (c d e n : ℕ) → Wrote b b₁ 0 (83 ∷ 73 ∷ 84 ∷ 69 ∷ []) c → Wrote b₁ b₂ c (n ∷ []) d
-    → Wrote b₂ b₃ d (0 ∷ 0 ∷ 0 ∷ []) e → Wrote b b₃ 0 (opening n) e
-opening-wrote b b₁ b₂ b₃ c d e n w x y = then (then w x) y
+pub opening-wrote : (t : Table) (b b₁ b₂ : List ℕ) (n R c d : ℕ) → n ≡ count t → R ≡ t .rule → Wrote b b₁ 0 (83 ∷ 73 ∷ 84 ∷ 69 ∷ []) c
+    → Wrote b₁ b₂ c (n ∷ 0 ∷ R ∷ 0 ∷ []) d → Wrote b b₂ 0 (opening t) d
+opening-wrote t b b₁ b₂ n R c d en er w x = rw (en, er) at (then w x)
 
 module _ (t : Table) (b : List ℕ) (h : length (image t) ≤ length b) where
   pub opening-room : 8 ≤ length b
   opening-room = omega (arith, length-image t)
 
-  module _ (b₁ : List ℕ) (n c : ℕ) (w : Wrote b b₁ 0 (opening n) c) where
+  module _ (b₁ : List ℕ) (c : ℕ) (w : Wrote b b₁ 0 (opening t) c) where
     pub contents-room : c + 4 * (count t + 1) ≤ length b₁
     contents-room = omega (arith, length-image t, w .end, sized w)
 
@@ -143,7 +143,7 @@ module _ (t : Table) (b : List ℕ) (h : length (image t) ≤ length b) where
     bodies-room b₂ d x =
         omega (arith, length-image t, w .end, sized w, x .end, sized x, length-contents (firstBody (count t)) (bodies t), many t)
 
-pub image-wrote : (t : Table) (n : ℕ) → n ≡ count t → (b b₁ b₂ b₃ : List ℕ) (c d e : ℕ) → Wrote b b₁ 0 (opening n) c
+pub image-wrote : (t : Table) (b b₁ b₂ b₃ : List ℕ) (c d e : ℕ) → Wrote b b₁ 0 (opening t) c
     → Wrote b₁ b₂ c (contents (firstBody (count t)) (bodies t)) d → Wrote b₂ b₃ d (flatten (bodies t)) e → Wrote b b₃ 0 (image t) e
 unfolding image
-image-wrote t n k b b₁ b₂ b₃ c d e w x y = then (then (rw k at w) x) y
+image-wrote t b b₁ b₂ b₃ c d e w x y = then (then w x) y

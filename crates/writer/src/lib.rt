@@ -13,10 +13,10 @@ ghost use Rattle.writer.specs.Writer.{Savable, imageOf, WriteAnswer};
 use crate::bodies::put_body;
 use crate::bodies::put_half;
 use crate::bodies::size_of;
-use buffer::put_byte;
 use buffer::put_word;
 use image::contents::first_body;
 use table::rows::count_of;
+use table::rows::rule_of;
 use whole::is_whole;
 
 mod bodies;
@@ -36,13 +36,14 @@ fn image_length(t: &[u8]) -> usize
     at
 }
 
-fn put_opening(buffer: &mut [u8], n: u8) -> usize
+fn put_opening(buffer: &mut [u8], t: &[u8]) -> usize
+    requires { ⌜ Savable (now t) ⌝ }
     requires { ⌜ 8 ≤ length (now buffer) ⌝ }
-    ensures { λ r. ⌜ Wrote (now (buffer .entry)) (now (buffer .exit)) 0 (opening n) r ⌝ }
+    ensures { λ r. ⌜ Wrote (now (buffer .entry)) (now (buffer .exit)) 0 (opening (tableIn (now (t .entry)))) r ⌝ }
 {
+    let figures = [count_of(t), 0, rule_of(t) as u8, 0];
     let end = put_word(buffer, 0, b"SITE");
-    let end = put_byte(buffer, end, n);
-    put_word(buffer, end, b"\0\0\0")
+    put_word(buffer, end, &figures)
 }
 
 // For each body its entry: its offset, which is where the one before it ends, and its length.
@@ -86,7 +87,7 @@ pub fn put_image(buffer: &mut [u8], t: &[u8]) -> usize
     requires { ⌜ length (imageOf (now t)) ≤ length (now buffer) ⌝ }
     ensures { λ r. ⌜ Wrote (now (buffer .entry)) (now (buffer .exit)) 0 (imageOf (now (t .entry))) r ⌝ }
 {
-    let end = put_opening(buffer, count_of(t));
+    let end = put_opening(buffer, t);
     let end = put_contents(buffer, end, t);
     put_bodies(buffer, end, t)
 }

@@ -1,11 +1,10 @@
 -- `engine::run` meets its contract. The invariant: k pieces are played, and answered. Assumes nothing.
 use Prim.Native.Nat.{_-_, _≤_}
 use mathlib.Core.Path.{_≡_}
-use native.Mathlib.Omega.{arith}
 use lib.ListN.{length}
 use borrow.Author.Needs.{needs}
 use Rattle.engine.specs.Engine.{played}
-use Rattle.engine.proofs.RunLaws.{Ran, ran-none, piece-starts, piece-ends, ran-more, Replied, replied-none, replied-more, ran-all}
+use Rattle.engine.proofs.RunLaws.{Ran, ran-none, fewer-left, piece-starts, piece-ends, ran-more, Replied, replied-none, replied-more, ran-all}
 use Rattle.engine.proofs.run.Statement.{statement}
 use Rattle.engine.proofs.run.Tie as tie
 
@@ -31,9 +30,9 @@ run-spec =
     (λ c. search (needs, piece-ends))
     (λ c κs. search needs)
     (λ c κs. search needs)
+    (λ c κs. search needs)
     (λ c. search needs)
-    (λ c. search needs)
-    (λ c. omega (arith, c .before .before .before .before .before .before .before .loop-test .taken))
+    (λ c. search (needs, fewer-left))
     (λ c. (search needs, search needs, search needs, search needs, search (needs, ran-more), search (needs, replied-more)))
     (λ c. search needs)
     (λ c. search needs)

@@ -9,11 +9,15 @@ step-requires c κs = search (needs, ready)
 
 returns : tie.Need-returns
 returns c =
-    step-answer _ _ (c .before .before .before .before .before .before .is-whole .ensures) _ _ _ _
-    (λ i. c .before .slice-known2 .given i .fits)
-    (c .before .before .before .before .before .if1 .taken)
-    (c .before .before .before .step .ensures)
+    let kept = c .before .before in
+    let stepped = kept .before .before in
+    let tested = stepped .before .before in
+    step-answer _ _ (tested .before .is-whole .ensures) _ _ _ _ _
+    (λ i. kept .slice-known2 .given i .fits)
+    (tested .if1 .taken)
+    (stepped .step .ensures)
     (c .number .ensures)
+    (c .before .eight-bytes .ensures)
 
 returns-2 : tie.Need-returns-2
 returns-2 c = search (needs, step-broken)
@@ -24,6 +28,7 @@ kyntulei-step-spec =
     (tie.spec
     (λ c κs. search needs)
     step-requires
+    (λ c κs. search needs)
     (λ c κs. search needs)
     (λ c. search needs)
     (λ c. search needs)

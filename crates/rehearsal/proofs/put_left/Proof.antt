@@ -6,17 +6,17 @@ use Rattle.rehearsal.proofs.put_left.Tie as tie
 
 put-image-requires : tie.Need-put-image-requires
 put-image-requires c κs =
-    let ran = c .before .before .before in
-    let savable = left-savable _ _ _ _ _ (search needs) (ran .before .before .run .ensures) (search needs) (λ i. ran .slice-known3 .given i .fits) in
+    let ran = c .before .before .before .before in
+    let savable = left-savable _ _ _ _ _ _ (search needs) (search needs) (ran .before .before .run .ensures) (search needs) (λ i. ran .slice-known4 .given i .fits) in
     (savable, search (needs, left-room))
 
 pub put-left-spec : {M : Type 1} → statement M
 put-left-spec =
     tie.close
     (tie.spec
-    (λ c. search needs)
     (λ c κs. search needs)
     put-image-requires
+    (λ c. search needs)
     (λ c. search needs)
     (λ c. search needs)
     (λ c. search (needs, left-shown)))

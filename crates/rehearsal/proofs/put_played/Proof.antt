@@ -26,12 +26,11 @@ put-played-spec =
     (tie.spec
     (λ c. search needs)
     slice-aggregate-run
-    (λ c. search needs)
     (λ c κs. search needs)
-    (λ c. search needs)
     (λ c κs. search needs)
     put-cut-requires
     put-table-requires
+    (λ c. search needs)
     (λ c. search needs)
     (λ c. search needs)
     returns)

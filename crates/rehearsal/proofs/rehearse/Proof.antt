@@ -5,7 +5,7 @@ use Rattle.rehearsal.proofs.rehearse.Statement.{statement}
 use Rattle.rehearsal.proofs.rehearse.Tie as tie
 
 put-played-requires : tie.Need-put-played-requires
-put-played-requires c κs = (search (needs, site-ready), (search (needs, site-short), search needs))
+put-played-requires c κs = (search (needs, site-ready), (search needs, (search (needs, site-short), search needs)))
 
 pub rehearse-spec : {M : Type 1} → statement M
 rehearse-spec =
@@ -18,6 +18,7 @@ rehearse-spec =
     (λ c. search needs)
     (λ c. search (needs, site-within))
     (λ c. search (needs, site-within))
+    (λ c. search needs)
     (λ c. search needs)
     put-played-requires
     (λ c. search needs)

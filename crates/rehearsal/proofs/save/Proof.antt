@@ -8,7 +8,7 @@ open-input-requires : tie.Need-open-input-requires
 open-input-requires c κs = search needs
 
 put-left-requires : tie.Need-put-left-requires
-put-left-requires c κs = (search (needs, site-ready), (search (needs, site-short), search needs))
+put-left-requires c κs = (search (needs, site-ready), (search needs, (search (needs, site-short), search needs)))
 
 told : tie.Need-returns
 told c = search (needs, told-saved)
@@ -27,6 +27,7 @@ save-spec =
     (λ c. search needs)
     (λ c. search (needs, site-within))
     (λ c. search (needs, site-within))
+    (λ c. search needs)
     (λ c. search needs)
     put-left-requires
     (λ c. search needs)

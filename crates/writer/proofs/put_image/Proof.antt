@@ -5,7 +5,7 @@ use Rattle.writer.proofs.put_image.Statement.{statement}
 use Rattle.writer.proofs.put_image.Tie as tie
 
 put-opening-requires : tie.Need-put-opening-requires
-put-opening-requires c κs = search (needs, opening-room)
+put-opening-requires c κs = (search needs, search (needs, opening-room))
 
 put-contents-requires : tie.Need-put-contents-requires
 put-contents-requires c κs = (search needs, search (needs, contents-room))
@@ -20,7 +20,6 @@ pub put-image-spec : {M : Type 1} → statement M
 put-image-spec =
     tie.close
     (tie.spec
-    (λ c κs. search needs)
     put-opening-requires
     put-contents-requires
     put-bodies-requires

@@ -1,6 +1,6 @@
 -- `engine::judges::judge` meets its contract. Assumes nothing.
 use borrow.Author.Needs.{needs}
-use Rattle.engine.proofs.AskedLaws.{elect-i, reconfigure-i, send-i, send-j, spread-i, spread-j, write-i, fetch-i, fetch-j, roll-back-i, roll-back-j, commit-i, judged}
+use Rattle.engine.proofs.AskedLaws.{elect-i, reconfigure-i, old-some, new-some, send-i, send-j, spread-i, spread-j, write-i, fetch-i, fetch-j, roll-back-i, roll-back-j, commit-i, judged}
 use Rattle.engine.proofs.judges.judge.Statement.{statement}
 use Rattle.engine.proofs.judges.judge.Tie as tie
 
@@ -11,7 +11,7 @@ judge-spec =
     (λ c. search needs)
     (λ c κs. search (needs, elect-i))
     (λ c. search needs)
-    (λ c κs. search (needs, reconfigure-i))
+    (λ c κs. (search needs, (search (needs, reconfigure-i), (search (needs, old-some), search (needs, new-some)))))
     (λ c. search needs)
     (λ c κs. search (needs, send-i, send-j))
     (λ c. search needs)

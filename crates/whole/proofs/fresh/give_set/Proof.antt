@@ -6,7 +6,7 @@ use Rattle.whole.proofs.fresh.give_set.Statement.{statement}
 use Rattle.whole.proofs.fresh.give_set.Tie as tie
 
 abbrev Inv-loop : tie.InvT-loop
-Inv-loop t₀ n set k₀ t k = Given t n set k
+Inv-loop t₀ n set k₀ t k = Given t₀ t n set k
 
 abbrev μ-loop : tie.MeasureT-loop
 μ-loop t₀ n set k₀ t k = n - k
