@@ -56,7 +56,9 @@
  *
  * A REPLY has 8 bytes, as an action has. Where it is given as one number, the low byte of that is byte 0.
  *   Byte 0                  its number: 0 says taken, any other is a refusal
- *   Bytes 1..3              0
+ *   Byte 1                  of refusals 8, 9, 10 and 23: the lowest server of the set that has the fault of that number.
+ *                           Else 0
+ *   Bytes 2..3              0
  *   Bytes 4..5, 6..7        under rule 2, of refusal 13: a majority of the old set and one of the new without a common
  *                           server, as sets, low byte first; of all such pairs the one whose old majority is the
  *                           lowest number, and among these the one with the lowest new majority. Else 0
@@ -70,7 +72,7 @@
  *    6  role: reconfigure, send, write and commit want a primary i; fetch and roll back a secondary i; send a
  *       secondary j
  *    7  elect, commit: the set is not within i's set or not more than half of it; elect: i itself is missing
- *    8  elect: somebody in the set is at a later term than i
+ *    8  elect: somebody in the set is at a later term than i; byte 1 of the reply says who, and so it does of 9 and 10
  *    9  elect: somebody in the set has a newer configuration than i (the configuration's term counts before its
  *       version)
  *   10  elect: somebody's log in the set is ahead of i's (last entry first, then length)
@@ -88,7 +90,7 @@
  *   20  fetch: j's log is not longer, or has another term where i's log ends
  *   21  roll back: i's last entry is not below j's, or i's log is how j's begins
  *   22  commit: i's log is empty or ends in another term than i's own
- *   23  commit: somebody in the set is at another term or lacks i's last entry
+ *   23  commit: somebody in the set is at another term or lacks i's last entry; byte 1 of the reply says who
  *   24  commit: a different term is marked at that position already
  * kyntulei_fresh has 32 beside these, kyntulei_read 30 to 34, and kyntulei_write 35. */
 #ifndef KYNTULEI_H

@@ -35,11 +35,11 @@ static void climb_elect(const struct engine *engine)
     refused(&scene, act(ELECT, 1, 0, 6), 7, "elect by others only");
     refused(&scene, act(ELECT, 1, 0, 11), 7, "elect by a server outside the set");
     action = act(ELECT, 1, 0, 7);
-    refused(&scene, action, 8, "elect under a larger term");
+    refused(&scene, action, at_server(8, 3), "elect under a larger term");
     give_role(&scene, 1, PRIMARY, 1000000000);
-    refused(&scene, action, 9, "elect under a newer configuration");
+    refused(&scene, action, at_server(9, 2), "elect under a newer configuration");
     give_configuration(&scene, 2, 7, 1, 0);
-    refused(&scene, action, 10, "elect under a log ahead");
+    refused(&scene, action, at_server(10, 2), "elect under a log ahead");
     give_log(&scene, 2, 0, NULL);
     refused(&scene, action, 11, "elect at the last term");
     give_role(&scene, 1, PRIMARY, 5);
@@ -206,10 +206,10 @@ static void climb_commit(const struct engine *engine)
     GIVE_LOG(&scene, 2, 3);
     give_role(&scene, 3, SECONDARY, 3);
     GIVE_LOG(&scene, 3, 3);
-    refused(&scene, action, 23, "commit with a member of another term");
+    refused(&scene, action, at_server(23, 2), "commit with a member of another term");
     give_role(&scene, 2, SECONDARY, 3);
     GIVE_LOG(&scene, 3, 2, 3);
-    refused(&scene, action, 23, "commit with a member that lacks the entry");
+    refused(&scene, action, at_server(23, 3), "commit with a member that lacks the entry");
     GIVE_LOG(&scene, 3, 3, 1);
     refused(&scene, action, 24, "commit over a mark of another term");
     give_mark(&scene, 1, 0);

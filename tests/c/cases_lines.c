@@ -28,7 +28,7 @@ static void configuration_term_before_version(const struct engine *engine)
     give_role(&scene, 2, SECONDARY, 3);
     give_configuration(&scene, 1, 3, 1, 2);
     give_configuration(&scene, 2, 3, 9, 1);
-    refused(&scene, act(ELECT, 2, 0, 3), 9, "(2, 1) newer than (1, 9): elect of the older");
+    refused(&scene, act(ELECT, 2, 0, 3), at_server(9, 1), "(2, 1) newer than (1, 9): elect of the older");
     struct scene after = scene;
     give_configuration(&after, 2, 3, 1, 2);
     taken(&scene, act(SEND, 1, 2, 0), &after, "(2, 1) newer than (1, 9): send of the newer");
@@ -44,7 +44,7 @@ static void longer_logs_and_later_entries(const struct engine *engine)
     give_role(&scene, 2, SECONDARY, 2);
     GIVE_LOG(&scene, 1, 1, 1, 1);
     GIVE_LOG(&scene, 2, 2);
-    refused(&scene, act(ELECT, 1, 0, 3), 10, "[2] ahead of [1,1,1]: elect of the one behind");
+    refused(&scene, act(ELECT, 1, 0, 3), at_server(10, 2), "[2] ahead of [1,1,1]: elect of the one behind");
     struct scene after = scene;
     give_role(&after, 1, SECONDARY, 3);
     give_role(&after, 2, PRIMARY, 3);
@@ -54,7 +54,7 @@ static void longer_logs_and_later_entries(const struct engine *engine)
     scene = fresh_scene(engine, 2, 3);
     GIVE_LOG(&scene, 1, 1);
     GIVE_LOG(&scene, 2, 1, 1);
-    refused(&scene, act(ELECT, 1, 0, 3), 10, "[1,1] ahead of [1]: elect of the one behind");
+    refused(&scene, act(ELECT, 1, 0, 3), at_server(10, 2), "[1,1] ahead of [1]: elect of the one behind");
     after = scene;
     give_role(&after, 1, SECONDARY, 1);
     give_role(&after, 2, PRIMARY, 1);
@@ -147,7 +147,7 @@ static void whole_case(const struct engine *engine)
         act(RECONFIGURE, 1, 0, 15), act(SEND, 1, 2, 0),  act(RECONFIGURE, 1, 0, 15),
         act(COMMIT, 1, 0, 3), act(RECONFIGURE, 1, 0, 15), act(ELECT, 3, 0, 6),
     };
-    const uint64_t expected[] = {0, 0, 0, 14, 0, 16, 0, 0, 8};
+    const uint64_t expected[] = {0, 0, 0, 14, 0, 16, 0, 0, at_server(8, 2)};
     const size_t count = sizeof expected / sizeof *expected;
     uint8_t replies[sizeof expected];
     struct scene scene = fresh_scene(engine, 4, 7);
@@ -159,7 +159,7 @@ static void whole_case(const struct engine *engine)
     for (size_t index = 0; index < count; index++) {
         uint64_t reply = UINT64_MAX;
         uint32_t number = engine->step(stepped.table, TABLE_BYTES, plan[index].byte, ACTION_BYTES, &reply);
-        check(number == expected[index] && reply == number, "rehearse's case: action %zu replied %u", index + 1, number);
+        check(number == number_of(reply) && reply == expected[index], "rehearse's case: action %zu replied %u", index + 1, number);
     }
     struct scene after = fresh_scene(engine, 4, 7);
     give_role(&after, 1, PRIMARY, 1);

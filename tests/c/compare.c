@@ -14,6 +14,7 @@ struct tally {
     uint64_t given[RULE_2 + 1][NUMBERS];
     uint64_t taken_of_kind[RULE_2 + 1][NUMBERS];
     uint64_t pairs;
+    uint64_t servers;
 };
 
 static void fill_plan(struct source *source, struct trial *trial, size_t count)
@@ -97,6 +98,7 @@ static void add_to_tally(struct tally *tally, const struct trial *trial, const s
         uint64_t reply = reply_at(outcome->replies, piece);
         tally->given[rule][number_of(reply)]++;
         tally->pairs += set_in(reply, OLD_SHIFT) != 0;
+        tally->servers += server_in(reply) != 0;
         if (reply == TAKEN) {
             tally->taken_of_kind[rule][trial->actions[ACTION_BYTES * piece]]++;
         }
@@ -116,8 +118,9 @@ static bool report_counts(const char *what, const uint64_t (*counts)[NUMBERS], u
 
 static bool report_tally(const struct tally *tally)
 {
-    printf("%llu actions in %llu trials, %llu pairs of majorities shown\n", (unsigned long long)tally->actions,
-           (unsigned long long)tally->trials, (unsigned long long)tally->pairs);
+    printf("%llu actions in %llu trials, %llu pairs of majorities and %llu servers in the way shown\n",
+           (unsigned long long)tally->actions, (unsigned long long)tally->trials, (unsigned long long)tally->pairs,
+           (unsigned long long)tally->servers);
     bool all_given = report_counts("how often each number was given", tally->given, TAKEN, NUMBERS - 1);
     bool all_taken = report_counts("how often each kind was taken", tally->taken_of_kind, ELECT, COMMIT);
     if (!all_given || !all_taken) {

@@ -104,9 +104,9 @@ static uint32_t supporters(const uint8_t *table, uint32_t i)
 }
 
 /* Refusals that are reached only by an action with nothing else amiss. */
-static bool is_near(uint32_t reply)
+static bool is_near(uint32_t number)
 {
-    return reply >= LARGER_TERM && reply != LEAVES_OUT_ITSELF;
+    return number >= LARGER_TERM && number != LEAVES_OUT_ITSELF;
 }
 
 /* Two neighbours change places with what the set has of them, which only rule 2 may allow. */
@@ -152,8 +152,8 @@ static bool choose_action(struct source *source, const uint8_t *table, uint32_t 
             if (!shape_action(table, i, other, &action)) {
                 continue;
             }
-            uint32_t reply = plain_judge(table, &action);
-            if (to_be_taken ? reply == TAKEN : is_near(reply)) {
+            uint32_t number = number_of(plain_judge(table, &action));
+            if (to_be_taken ? number == TAKEN : is_near(number)) {
                 found++;
                 if (below(source, found) == 0) {
                     *chosen = action;
@@ -170,11 +170,11 @@ static void thin_voters(struct source *source, const uint8_t *table, struct acti
     if (action->kind != ELECT && action->kind != COMMIT) {
         return;
     }
-    uint32_t reply = plain_judge(table, action);
+    uint32_t number = number_of(plain_judge(table, action));
     for (uint32_t tries = below(source, 16); tries > 0; tries--) {
         struct action thinner = *action;
         thinner.set &= ~only(between(source, 1, word(table, SERVERS)));
-        if (thinner.set != 0 && plain_judge(table, &thinner) == reply) {
+        if (thinner.set != 0 && number_of(plain_judge(table, &thinner)) == number) {
             *action = thinner;
         }
     }

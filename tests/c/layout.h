@@ -68,6 +68,19 @@ static inline uint32_t number_of(uint64_t reply)
     return (uint32_t)(reply & 0xff);
 }
 
+/* Where the server stands in it that refusals 8, 9, 10 and 23 show. */
+enum { SERVER_SHIFT = 8 };
+
+static inline uint32_t server_in(uint64_t reply)
+{
+    return (uint32_t)(reply >> SERVER_SHIFT & 0xff);
+}
+
+static inline uint32_t at_server(uint32_t number, uint32_t server)
+{
+    return number | server << SERVER_SHIFT;
+}
+
 /* Where the two majorities stand in it that refusal 13 shows under rule 2. */
 enum { OLD_SHIFT = 32, NEW_SHIFT = 48 };
 

@@ -68,9 +68,11 @@ static uint32_t judge_elect(const uint8_t *table, const struct action *action)
     }
     uint32_t lowest = word(candidate, TERM) == CEILING ? AT_CEILING : TAKEN;
     for (uint32_t rest = action->set; rest != 0; rest &= rest - 1) {
-        uint32_t objection = plain_objection(candidate, table + row_start(lowest_server(rest)));
-        if (objection != TAKEN && (lowest == TAKEN || objection < lowest)) {
-            lowest = objection;
+        uint32_t voter = lowest_server(rest);
+        uint32_t objection = plain_objection(candidate, table + row_start(voter));
+        /* Voters come in rising order, so the first with a number is the lowest with it. */
+        if (objection != TAKEN && (lowest == TAKEN || objection < number_of(lowest))) {
+            lowest = at_server(objection, voter);
         }
     }
     return lowest;
@@ -258,8 +260,9 @@ static uint32_t judge_commit(const uint8_t *table, const struct action *action)
         return NO_OWN_ENTRY;
     }
     for (uint32_t rest = action->set; rest != 0; rest &= rest - 1) {
-        if (!plain_supports(primary, table + row_start(lowest_server(rest)))) {
-            return NOT_SUPPORTED;
+        uint32_t member = lowest_server(rest);
+        if (!plain_supports(primary, table + row_start(member))) {
+            return at_server(NOT_SUPPORTED, member);
         }
     }
     uint32_t mark = word(table, MARKS + word(primary, LOG_LENGTH) - 1);

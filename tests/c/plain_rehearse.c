@@ -9,18 +9,28 @@
 #include "plain_image.h"
 #include "plain_rules.h"
 
+static void print_reply(uint64_t reply)
+{
+    if (reply == TAKEN) {
+        puts("taken");
+        return;
+    }
+    printf("refused %u", number_of(reply));
+    if (server_in(reply) != 0) {
+        printf(" at %u", server_in(reply));
+    }
+    if (set_in(reply, OLD_SHIFT) != 0) {
+        printf(" %u %u", set_in(reply, OLD_SHIFT), set_in(reply, NEW_SHIFT));
+    }
+    putchar('\n');
+}
+
 static void print_replies(uint8_t *table, const uint8_t *actions, size_t actions_len)
 {
     size_t count = actions_len / ACTION_BYTES;
     for (size_t piece = 0; piece < count; piece++) {
-        uint64_t reply = plain_play(table, actions + ACTION_BYTES * piece);
-        if (reply == TAKEN) {
-            printf("%zu taken\n", piece + 1);
-        } else if (set_in(reply, OLD_SHIFT) == 0) {
-            printf("%zu refused %u\n", piece + 1, number_of(reply));
-        } else {
-            printf("%zu refused %u %u %u\n", piece + 1, number_of(reply), set_in(reply, OLD_SHIFT), set_in(reply, NEW_SHIFT));
-        }
+        printf("%zu ", piece + 1);
+        print_reply(plain_play(table, actions + ACTION_BYTES * piece));
     }
     if (actions_len % ACTION_BYTES != 0) {
         printf("%zu cut\n", count + 1);

@@ -52,7 +52,8 @@ bool plain_is_whole(const uint8_t *table, size_t table_len);
 /* What the 8 bytes say by themselves, given n: TAKEN or one of 2 to 5. */
 uint32_t plain_parse(const uint8_t *bytes, uint32_t n, struct action *action);
 
-/* What the table says to a parsed action: TAKEN or one of 6 to 24. */
+/* What the table says to a parsed action: TAKEN or one of 6 to 24; 8, 9, 10 and 23 with the lowest server of the set at fault, at
+ * its place in the reply. */
 uint32_t plain_judge(const uint8_t *table, const struct action *action);
 
 /* What a change that rule 2 refuses shows, at its place in the reply: the lowest majorities of the old set and of the new

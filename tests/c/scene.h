@@ -55,6 +55,7 @@ void check_ladders(const struct engine *engine);
 void check_fields(const struct engine *engine);
 void check_errors(const struct engine *engine);
 void check_rules(const struct engine *engine);
+void check_servers(const struct engine *engine);
 void check_broken(const struct engine *engine);
 void check_lengths(const struct engine *engine);
 void check_images(const struct engine *engine);

@@ -3,6 +3,7 @@ pub mod Answers
 pub mod Worked
 pub mod Refused
 pub mod Replies
+pub mod InTheWay
 pub mod Logless
 pub mod Orders
 pub mod Logs

@@ -1,21 +1,22 @@
 -- What a step does where no refusal holds, and where one does. Assumes nothing.
 use Prim.Native.Nat.{ℕ, zero, suc, _<_}
 use mathlib.Core.Bool.{Bool, true, false, not, _||_, _&&_}
-use mathlib.Core.List.{List, []}
+use mathlib.Core.List.{List, [], _++_}
 use mathlib.Core.Logic.{_⊎_, inl, inr, ⊎-elim}
 use mathlib.Core.Path.{_≡_, refl}
+use native.Mathlib.Decide.{ℕ-discrete}
 use native.Mathlib.Omega.{arith}
 use lib.Dec.{T, eqb}
 use lib.ListN.{getD}
 use borrow.Author.Tests.{eqb-true}
 use Rattle.members.specs.Members.{within}
-use Rattle.words.proofs.RefusalLaws.{NoneHold, lacks, first-later, none-hold, ascending}
+use Rattle.words.proofs.RefusalLaws.{NoneHold, lacks, first-later, none-hold, ascending, EachHeld, given-each, given-none, given-held}
 use Rattle.words.proofs.Tests.{Passes, Fails, neither, refuted, both-refuted}
 use Rattle.algorithm.specs.Table.{Table, count, broken}
 use Rattle.words.specs.Lists.{every}
-use Rattle.words.specs.Refusal.{first}
+use Rattle.words.specs.Refusal.{nothing, first, Answer, answer, given}
 use Rattle.algorithm.specs.Actions.{Action, unknown, elect, reconfigure, send, spread, write, fetch, rollBack, commit, kinds, kindOf, iOf, jOf, setOf, usesSet, usesJ, actionOf}
-use Rattle.algorithm.specs.Run.{known, commonRefusals, ownRefusals, refusals, after, step, wins, wonBy}
+use Rattle.algorithm.specs.Run.{known, commonRefusals, ownRefusals, refusals, after, answered, step, wins, wonBy}
 
 -- ---- the numbers of an action's refusals
 
@@ -108,3 +109,18 @@ outcome t a = go (eqb (first (refusals t a)) 0) refl
 -- a refused step leaves the table as it was
 pub refused-stays : (t : Table) (a : List ℕ) → 0 < step t a .number → step t a .table ≡ t
 refused-stays t a h = ⊎-elim (λ d. absurd (omega (arith, d .number))) (λ r. r .table) (outcome t a)
+
+-- ---- what is said of each refusal is said of the answer
+
+-- P is said of taken, of 1 to 5 where they hold, and, for an action that fits a table that keeps the rules, of its kind's own
+pub step-each : (P : Answer → Type 0) (t : Table) (a : List ℕ) → P (answer 0 nothing) → EachHeld P (commonRefusals t a)
+    → (Fails (broken t) → Fits (count t) (actionOf a) → EachHeld P (ownRefusals t (actionOf a))) → P (answered (step t a))
+unfolding step refusals every
+step-each P t a none common own = go (ℕ-discrete (first (commonRefusals t a)) 0)
+  where
+    go : Dec (first (commonRefusals t a) ≡ 0) → P (given (commonRefusals t a ++ ownRefusals t (actionOf a)))
+    go (yes e) =
+        let (sound, fit) = common-fit t a (none-hold (commonRefusals t a) tt e) in
+        rw (given-none (commonRefusals t a) (ownRefusals t (actionOf a)) tt e) (given-each P (ownRefusals t (actionOf a)) none (own sound fit))
+    go (no n) =
+        rw (given-held (commonRefusals t a) (ownRefusals t (actionOf a)) n) (given-each P (commonRefusals t a) none common)

@@ -1,8 +1,7 @@
 -- Replies: every answer of the algorithm is one that the enum carries and eight bytes hold, and how a judge's tests give it. Assumes nothing.
 use Prim.Native.Nat.{ℕ, zero, suc, _+_, _*_, _/_, _%_, _≤_, _<_}
-use native.Mathlib.Decide.{ℕ-discrete}
 use native.Mathlib.Omega.{arith}
-use mathlib.Core.Bool.{Bool, true, false, not, cond}
+use mathlib.Core.Bool.{Bool, true, false, not, cond, _&&_}
 use mathlib.Core.List.{List, [], _∷_, _++_, flatten}
 use mathlib.Core.Path.{_≡_, refl, sym, ap, subst, _∙_}
 use mir.Facts.{eqb-yes}
@@ -16,18 +15,18 @@ use Rattle.words.specs.Lists.{every, between}
 use Rattle.words.specs.Words.{pairOf, valueOf, eight}
 use Rattle.words.specs.Refusal.{Shown, nothing, Refusal, refuseShowing, first, firstShown, Answer, answer, given}
 use Rattle.words.proofs.Tests.{Passes, both, at-most, less, and-told}
-use Rattle.words.proofs.Lists.{every-cons}
 use Rattle.words.proofs.WordLaws.{eight-value}
-use Rattle.words.proofs.RefusalLaws.{quiet, EachHeld, given-each, given-none, given-held, none-hold, given-hit, given-miss, turned, either}
-use Rattle.members.specs.Members.{within}
+use Rattle.words.proofs.RefusalLaws.{quiet, quiet-each, EachHeld, given-hit, given-miss, turned, either}
+use Rattle.members.specs.Members.{member, within, lowestIn}
 use Rattle.members.specs.Rules.{mayFollow, oldApart, newApart}
+use Rattle.members.proofs.Lowest.{lowest-le}
 use Rattle.members.proofs.Pairs.{some-apart, majority-range}
 use Rattle.algorithm.specs.declared.Reply.{Reply}
-use Rattle.algorithm.specs.declared.Reply.the-variants.{Taken, Refused, Apart}
+use Rattle.algorithm.specs.declared.Reply.the-variants.{Taken, Refused, RefusedAt, Apart}
 use Rattle.algorithm.specs.Table.{Table, count, server}
-use Rattle.algorithm.specs.Actions.{Action, unknown, elect, reconfigure, send, spread, write, fetch, rollBack, commit, actionOf, apartShown, electRefusals, majorityRefusals, markRefusals, sendRefusals, spreadRefusals, writeRefusals, fetchRefusals, rollBackRefusals, commitRefusals}
-use Rattle.algorithm.specs.Run.{answerOf, replyOf, replyBytes, answerIn, repliesBytes, numbers, commonRefusals, ownRefusals, refusals, answered, step, pieces, answersIn, play}
-use Rattle.algorithm.proofs.Refused.{Fits, common-fit}
+use Rattle.algorithm.specs.Actions.{Action, unknown, elect, reconfigure, send, spread, write, fetch, rollBack, commit, actionOf, oneServer, apartShown, majorityRefusals, markRefusals, sendRefusals, spreadRefusals, writeRefusals, fetchRefusals, rollBackRefusals}
+use Rattle.algorithm.specs.Run.{answerOf, replyOf, replyBytes, answerIn, repliesBytes, numbers, commonRefusals, ownRefusals, answered, step, pieces, answersIn, play}
+use Rattle.algorithm.proofs.Refused.{Fits, step-each}
 use Rattle.algorithm.proofs.Seen.{within-width}
 use Rattle.algorithm.proofs.Sound.{SoundTable, table-sound, here-sound}
 
@@ -46,6 +45,10 @@ module _ (r : Reply) where
   unfolding valueOf
   refused-eight k e = rw e (omega arith)
 
+  pub served-eight : (k s : ℕ) → r ≡ RefusedAt k s → k + 256 * s ≡ valueOf (replyBytes (answerOf r))
+  unfolding valueOf
+  served-eight k s e = rw e (omega arith)
+
   pub apart-eight : (old new : ℕ) → old < 65536 → new < 65536 → r ≡ Apart old new → 13 + 4294967296 * (old + 65536 * new) ≡ valueOf (replyBytes (answerOf r))
   unfolding valueOf
   apart-eight old new h k e = rw e (omega (arith, half-back old h, half-back new k))
@@ -61,18 +64,23 @@ pub record Carried (a : Answer) : Type 0 where
   pub old : a .shown .old < 65536
   pub new : a .shown .new < 65536
 
-plain : (k : ℕ) → Passes (between 1 255 k) → Carried (answer k nothing)
-plain k h =
+-- a number with the server that it shows; 0 is none
+served : (k s : ℕ) → Passes (between 1 255 k) → s < 256 → Carried (answer k (oneServer s))
+served k s h below =
     let (least, most) = both {a = leb 1 k} h in
     let from : 1 ≤ k = at-most least in
     let to : k ≤ 255 = at-most most in
-    record { same = rw (ne-eqb k 0 (omega arith)); number = omega arith; server = omega arith; copied = omega arith; old = omega arith; new = omega arith }
+    record { same = rw (ne-eqb k 0 (omega arith)) (same s); number = omega arith; server = below; copied = omega arith; old = omega arith; new = omega arith }
+  where
+    same : (s : ℕ) → answerOf (cond (eqb s 0) (Refused k) (RefusedAt k s)) ≡ answer k (oneServer s)
+    same zero = refl
+    same (suc s) = rw (ne-eqb (suc s) 0 (omega arith))
+
+plain : (k : ℕ) → Passes (between 1 255 k) → Carried (answer k nothing)
+plain k h = served k 0 h (omega arith)
 
 quiet-carried : (rs : List Refusal) → T (every (λ r. between 1 255 (r .number)) rs) → EachHeld Carried (quiet rs)
-quiet-carried [] h = tt
-quiet-carried (r ∷ rs) h =
-    let (here, rest) = every-cons (λ r. between 1 255 (r .number)) r rs (record { yes = h }) in
-    (λ _. plain (r .number) here, quiet-carried rs (rest .yes))
+quiet-carried = quiet-each Carried (between 1 255) plain
 
 taken : Carried (answer 0 nothing)
 taken = record { same = refl; number = omega arith; server = omega arith; copied = omega arith; old = omega arith; new = omega arith }
@@ -98,14 +106,22 @@ module _ (t : Table) (sound : SoundTable t) where
   set-range : {m : ℕ} → Passes (within m (count t)) → (0 < m) × (m < 65536)
   set-range {m} w = (less (both {a = ltb 0 m} w .0), omega (arith, within-width {m = m} (count t) w, pow-mono (sound .few)))
 
+  -- a server is one of the table's
+  fault-carried : (k : ℕ) (fault : ℕ → Bool) (q : ℕ) → T (between 1 255 k) → Carried (answer k (oneServer (lowestIn (count t) fault q)))
+  fault-carried k fault q h =
+      served k (lowestIn (count t) fault q) (record { yes = h }) (omega (arith, lowest-le (λ s. member s q && fault s) (count t), sound .few))
+
+  quietly : (k : ℕ) → T (between 1 255 k) → Carried (answer k nothing)
+  quietly k h = plain k (record { yes = h })
+
   own-carried : (a : Action) → Fits (count t) a → EachHeld Carried (ownRefusals t a)
   unfolding every
   own-carried unknown fit = tt
-  own-carried (elect i q) fit = quiet-carried (electRefusals t i q) tt
+  own-carried (elect i q) fit =
+      (λ _. quietly 7 tt, (λ _. fault-carried 8 _ _ tt, (λ _. fault-carried 9 _ _ tt, (λ _. fault-carried 10 _ _ tt, (λ _. quietly 11 tt, tt)))))
   own-carried (reconfigure i m) (i-fits, m-fits) =
       let (a, b) = set-range (here-sound sound i i-fits .config .set) in
       let (c, d) = set-range m-fits in
-      let quietly : (k : ℕ) → T (between 1 255 k) → Carried (answer k nothing) = λ k h. plain k (record { yes = h }) in
       let shown = apart-carried (t .rule) (server t i .config .set) m a b c d in
       let rest = quiet-carried (majorityRefusals t i ++ markRefusals t i) tt in
       (λ _. quietly 6 tt, (λ _. quietly 11 tt, (λ _. quietly 12 tt, (shown, rest))))
@@ -114,31 +130,27 @@ module _ (t : Table) (sound : SoundTable t) where
   own-carried (write i) fit = quiet-carried (writeRefusals t i) tt
   own-carried (fetch i j) fit = quiet-carried (fetchRefusals t i j) tt
   own-carried (rollBack i j) fit = quiet-carried (rollBackRefusals t i j) tt
-  own-carried (commit i q) fit = quiet-carried (commitRefusals t i q) tt
+  own-carried (commit i q) fit =
+      (λ _. quietly 6 tt, (λ _. quietly 7 tt, (λ _. quietly 22 tt, (λ _. fault-carried 23 _ _ tt, (λ _. quietly 24 tt, tt)))))
 
 -- so is the answer to every action
 pub step-carried : (t : Table) (a : List ℕ) → Carried (answered (step t a))
-unfolding step refusals every
-step-carried t a = go (ℕ-discrete (first (commonRefusals t a)) 0)
-  where
-    go : Dec (first (commonRefusals t a) ≡ 0) → Carried (given (commonRefusals t a ++ ownRefusals t (actionOf a)))
-    go (yes e) =
-        let (sound, fit) = common-fit t a (none-hold (commonRefusals t a) tt e) in
-        rw (given-none (commonRefusals t a) (ownRefusals t (actionOf a)) tt e)
-        (given-each Carried (ownRefusals t (actionOf a)) taken (own-carried t (table-sound sound) (actionOf a) fit))
-    go (no n) =
-        rw (given-held (commonRefusals t a) (ownRefusals t (actionOf a)) n)
-        (given-each Carried (commonRefusals t a) taken (quiet-carried (commonRefusals t a) tt))
+unfolding every
+step-carried t a = step-each Carried t a taken (quiet-carried (commonRefusals t a) tt) (λ sound fit. own-carried t (table-sound sound) (actionOf a) fit)
 
 -- where the reply is taken, no refusal's number is given
 pub taken-number : (a : Answer) → replyOf a ≡ Taken → a .number ≡ 0
-taken-number a e = go (eqb (a .number) 0) refl (eqb (a .shown .old) 0) e
+taken-number a e = go (eqb (a .number) 0) refl (eqb (a .shown .server) 0) (eqb (a .shown .old) 0) e
   where
-    go : (b : Bool) → eqb (a .number) 0 ≡ b → (c : Bool) → cond b Taken (cond c (Refused (a .number)) (Apart (a .shown .old) (a .shown .new))) ≡ Taken
+    bare : Bool → Reply
+    bare d = cond d (Refused (a .number)) (Apart (a .shown .old) (a .shown .new))
+
+    go : (b : Bool) → eqb (a .number) 0 ≡ b → (c d : Bool) → cond b Taken (cond c (bare d) (RefusedAt (a .number) (a .shown .server))) ≡ Taken
         → a .number ≡ 0
-    go true f c e = eqb-yes (subst T (sym f) tt)
-    go false f true e = ap (λ (r : Reply). answerOf r .number) e
-    go false f false e = let z : _≡_ {A = ℕ} 13 0 = ap (λ (r : Reply). answerOf r .number) e in absurd (omega arith)
+    go true f c d e = eqb-yes (subst T (sym f) tt)
+    go false f false d e = ap (λ (r : Reply). answerOf r .number) e
+    go false f true true e = ap (λ (r : Reply). answerOf r .number) e
+    go false f true false e = let z : _≡_ {A = ℕ} 13 0 = ap (λ (r : Reply). answerOf r .number) e in absurd (omega arith)
 
 -- ---- its bytes
 

@@ -11,7 +11,7 @@ use lib.Dec.{ltb, eqb}
 use lib.ListN.{length, getD, take, List·getD-eq-default}
 use Rattle.members.specs.Members.{member, within, majority}
 use Rattle.words.proofs.Tests.{Passes, both, together, either, neither, refuted, contradiction, both-refuted, equal, unequal, less, not-less, at-most, is-equal, is-at-most}
-use Rattle.members.proofs.Majorities.{majority-is, may-follow, most-map, all-pass, none-passes, most-pass}
+use Rattle.members.proofs.Majorities.{majority-is, may-follow, most-map, none-passes, most-pass}
 use Rattle.words.specs.Lists.{nth, put}
 use Rattle.words.specs.Refusal.{refuse}
 use Rattle.algorithm.specs.Table.{Log, Server, Table, count, server, primary, entry, entryAt, mark, withConfig, withEntry, withLog, positions, newer, last, held, prefix}
@@ -206,7 +206,7 @@ can-commit t i q fits none =
       majority = majority-is (refuted (none 7));
       some = omega arith;
       own = equal (refuted other);
-      held = λ s v. let (term, holds) = both (all-pass (count t) q (within-width (count t) fits) _ (refuted (none 23)) s v) in (equal term, held-is holds);
+      held = λ s v. let (term, holds) = both (refuted (none-passes (count t) q (within-width (count t) fits) _ (none 23) s v)) in (equal term, held-is holds);
     }
 
 module _ (t : Table) (i q : ℕ) (k : Taken t (commit i q)) where

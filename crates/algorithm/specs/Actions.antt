@@ -7,7 +7,7 @@ use lib.Dec.{leb, ltb, eqb}
 use lib.ListN.{length, getD}
 use Rattle.words.specs.Words.{pairOf}
 use Rattle.words.specs.Refusal.{Shown, nothing, Refusal, refuse, refuseShowing}
-use Rattle.members.specs.Members.{member, majority, allPass, somePass, mostPass}
+use Rattle.members.specs.Members.{member, majority, somePass, mostPass, lowestIn}
 use Rattle.members.specs.Rules.{mayFollow, oldApart, newApart}
 use Rattle.algorithm.specs.Table.{Config, configOf, entry, Log, Server, Table, count, server, primary, secondary, entryAt, termAt, mark, withServers, withServer, changed, withMark, withRole, withTerm, withConfig, withEntry, withoutLast, ceiling, positions, newer, last, ahead, held, prefix}
 
@@ -59,6 +59,14 @@ actionOf bs = getD (kinds (iOf bs) (jOf bs) (setOf bs)) (kindOf bs) unknown
 
 -- ---- what the kinds share
 
+-- what is shown of one server
+abbrev pub oneServer : ℕ → Shown
+oneServer s = record { server = s; copied = 0; old = 0; new = 0 }
+
+-- refusal k, which holds where some member of Q has a fault, and shows the lowest member that has it
+abbrev pub refuseFault : ℕ → Table → (ℕ → Bool) → ℕ → Refusal
+refuseFault k t fault Q = refuseShowing k (somePass (count t) fault Q) (oneServer (lowestIn (count t) fault Q))
+
 -- the server with the term T, secondary
 abbrev pub steppedDown : ℕ → Server → Server
 steppedDown T s = withRole 0 (withTerm T s)
@@ -77,17 +85,18 @@ newerConfig t i s = newer (server t s .config) (server t i .config)
 abbrev pub logAhead : Table → ℕ → ℕ → Bool
 logAhead t i s = ahead (server t s .log) (server t i .log)
 
--- 7 to 9: the voters, their terms and configurations
+-- 8 and 9: the voters' terms and configurations
+abbrev pub configRefusals : Table → ℕ → ℕ → List Refusal
+configRefusals t i Q = refuseFault 8 t (largerTerm t i) Q ∷ refuseFault 9 t (newerConfig t i) Q ∷ []
+
+-- 7 to 9: these, and before them who votes
 abbrev pub voterRefusals : Table → ℕ → ℕ → List Refusal
 voterRefusals t i Q =
-    refuse 7 (not (majority Q (server t i .config .set)) || not (member i Q))
-    ∷ refuse 8 (somePass (count t) (largerTerm t i) Q)
-    ∷ refuse 9 (somePass (count t) (newerConfig t i) Q)
-    ∷ []
+    refuse 7 (not (majority Q (server t i .config .set)) || not (member i Q)) ∷ configRefusals t i Q
 
 -- 10: the voters' logs
 abbrev pub logRefusals : Table → ℕ → ℕ → List Refusal
-logRefusals t i Q = refuse 10 (somePass (count t) (logAhead t i) Q) ∷ []
+logRefusals t i Q = refuseFault 10 t (logAhead t i) Q ∷ []
 
 -- 11: i has the last term
 abbrev pub lastTermRefusals : Table → ℕ → List Refusal
@@ -268,6 +277,10 @@ rollBackAfter t i j = changed t i withoutLast
 abbrev pub supportsAt : Table → ℕ → ℕ → ℕ → Bool
 supportsAt t i p s = sameTerm t i s && held (server t s .log) p (server t i .term)
 
+-- it does not: it has another term, or lacks the entry
+abbrev pub opposesAt : Table → ℕ → ℕ → ℕ → Bool
+opposesAt t i p s = not (supportsAt t i p s)
+
 -- the server has no entry, or the last one is of another term than its own
 abbrev pub lacksEntry : Server → Bool
 lacksEntry a = eqb (length (a .log)) 0 || not (eqb (last (a .log)) (a .term))
@@ -285,7 +298,7 @@ entryRefusals t i Q =
     refuse 6 (not (primary a))
     ∷ refuse 7 (not (majority Q (a .config .set)))
     ∷ refuse 22 (lacksEntry a)
-    ∷ refuse 23 (not (allPass (count t) (supportsAt t i (length (a .log))) Q))
+    ∷ refuseFault 23 t (opposesAt t i (length (a .log))) Q
     ∷ []
 
 -- commit: 6, 7 and 22 to 24

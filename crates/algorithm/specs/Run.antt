@@ -9,9 +9,9 @@ use Rattle.words.specs.Words.{half, halfAt}
 use Rattle.words.specs.Refusal.{Shown, nothing, Refusal, refuse, Answer, answer, given, unlessRefused}
 use Rattle.members.specs.Members.{within}
 use Rattle.algorithm.specs.declared.Reply.{Reply}
-use Rattle.algorithm.specs.declared.Reply.the-variants.{Taken, Refused, Apart}
+use Rattle.algorithm.specs.declared.Reply.the-variants.{Taken, Refused, RefusedAt, Apart}
 use Rattle.algorithm.specs.Table.{Table, count, broken, server}
-use Rattle.algorithm.specs.Actions.{twoSets, byte, kindOf, iOf, jOf, setOf, usesSet, usesJ, Action, unknown, elect, reconfigure, send, spread, write, fetch, rollBack, commit, actionOf, electRefusals, reconfigureRefusals, sendRefusals, spreadRefusals, writeRefusals, fetchRefusals, rollBackRefusals, commitRefusals, electAfter, reconfigureAfter, sendAfter, spreadAfter, writeAfter, fetchAfter, rollBackAfter, commitAfter}
+use Rattle.algorithm.specs.Actions.{oneServer, twoSets, byte, kindOf, iOf, jOf, setOf, usesSet, usesJ, Action, unknown, elect, reconfigure, send, spread, write, fetch, rollBack, commit, actionOf, electRefusals, reconfigureRefusals, sendRefusals, spreadRefusals, writeRefusals, fetchRefusals, rollBackRefusals, commitRefusals, electAfter, reconfigureAfter, sendAfter, spreadAfter, writeAfter, fetchAfter, rollBackAfter, commitAfter}
 
 -- ---- replies
 
@@ -19,12 +19,14 @@ use Rattle.algorithm.specs.Actions.{twoSets, byte, kindOf, iOf, jOf, set
 abbrev pub answerOf : Reply → Answer
 answerOf Taken = answer 0 nothing
 answerOf (Refused k) = answer k nothing
+answerOf (RefusedAt k s) = answer k (oneServer s)
 answerOf (Apart old new) = answer 13 (twoSets old new)
 
--- the reply that gives an answer: the majorities, where some are shown, and else the number alone
+-- the reply that gives an answer: with the server, where one is shown; the majorities, where some are; and else the number alone
 abbrev pub replyOf : Answer → Reply
 replyOf a =
-    unlessRefused (a .number) Taken (cond (eqb (a .shown .old) 0) (Refused (a .number)) (Apart (a .shown .old) (a .shown .new)))
+    let bare = cond (eqb (a .shown .old) 0) (Refused (a .number)) (Apart (a .shown .old) (a .shown .new)) in
+    unlessRefused (a .number) Taken (cond (eqb (a .shown .server) 0) bare (RefusedAt (a .number) (a .shown .server)))
 
 -- an answer in eight bytes: the number, the server, how many entries were copied, 0, and the two majorities
 abbrev pub replyBytes : Answer → List ℕ

@@ -78,6 +78,9 @@ module _ (b : List ℕ) (x : Asked) (i j : ℕ) (f : Fitting b x) where
   pub commit-i : x ≡ Commit i j → Within b i
   commit-i e = (rw e at f) .0
 
+  pub commit-set : x ≡ Commit i j → within j (count (tableIn b)) ≡ true
+  commit-set e = (rw e at f) .1
+
 sound-at : {b : List ℕ} {i : ℕ} → Ready b → Within b i → SoundServer (count (tableIn b)) (server (tableIn b) i)
 sound-at {b} {i} h w = here-sound (table-sound (false-fails (h .sound))) i (together (is-at-most (w .some)) (is-at-most (w .known)))
 

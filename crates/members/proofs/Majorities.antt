@@ -9,7 +9,7 @@ use lib.Dec.{T}
 use lib.Bits.{bitAnd, bitXor, and-le-r, and-self}
 use lib.Count.{ones}
 use mir.Facts.{and-yes}
-use Rattle.members.specs.Members.{member, Member, Subset, oneApart, Majority, majority, mask, allPass, somePass, mostPass}
+use Rattle.members.specs.Members.{member, Member, Subset, oneApart, Majority, majority, mask, somePass, mostPass}
 use Rattle.members.specs.Rules.{Meet, MajoritiesMeet, leastShared, allMeet, mayFollow}
 use Rattle.members.proofs.Said.{All, Some, Most, Hits}
 use Rattle.words.proofs.Tests.{Passes, Fails, both, together, contradiction, fails, equal, less, at-most, is-equal, is-less}
@@ -154,12 +154,6 @@ module _ (n m : ℕ) (width : m < 2 ^ n) (p : ℕ → Bool) where
   passed : (s : ℕ) → Member s (bitAnd m (mask n p)) → Member s m × Passes (p s)
   passed s t =
       let (a, b) = in-both m (mask n p) s t in (a, record { yes = in-mask n p s b })
-
-  pub all-pass : Passes (allPass n p m) → All m (λ s. Passes (p s))
-  all-pass t s u = passed s (subst (Member s) (sym (equal t)) u) .1
-
-  pub pass-all : All m (λ s. Passes (p s)) → Passes (allPass n p m)
-  pass-all h = is-equal (subset-and m (mask n p) (λ s u. mask-in n p s (member-pos s m u) (member-le n s width u) (h s u .yes)))
 
   pub some-passes : Passes (somePass n p m) → Some m (λ s. Passes (p s))
   some-passes t = let (s, u) = a-member (bitAnd m (mask n p)) (less t) in (s, passed s u .0, passed s u .1)

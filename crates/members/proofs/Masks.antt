@@ -309,6 +309,13 @@ and-passing n q f =
     mask-is n (bitAnd q (mask n f)) (λ s. member s q && f s) (omega (arith, and-le-r q (mask n f), mask-lt n f))
     (λ k l. and-member (suc k) q (mask n f) ∙ ap (λ (b : Bool). member (suc k) q && b) (member-mask n f k l))
 
+-- and those that do not pass
+pub without-passing : (n q : ℕ) (f : ℕ → Bool) → q < 2 ^ n → without q (mask n f) ≡ bitAnd q (mask n (λ s. not (f s)))
+without-passing n q f width =
+    mask-is n (without q (mask n f)) (λ s. member s q && not (f s)) (without-lt n q (mask n f) width)
+    (λ k l. without-member (suc k) q (mask n f) ∙ ap (λ (b : Bool). member (suc k) q && not b) (member-mask n f k l))
+    ∙ sym (and-passing n q (λ s. not (f s)))
+
 pub and-both : (n q : ℕ) (f g : ℕ → Bool) → bitAnd (bitAnd q (mask n f)) (mask n g) ≡ bitAnd q (mask n (λ s. f s && g s))
 and-both n q f g =
     let m : ℕ = bitAnd q (mask n f) in

@@ -49,8 +49,7 @@ pub record Majority (q m : ℕ) : Type 0 where
 abbrev pub majority : ℕ → ℕ → Bool
 majority q m = eqb (bitAnd q m) q && ltb (ones m) (2 * ones q)
 
--- ---- the same as tests, for sets of servers 1 to n (proofs/Majorities: all-pass and pass-all, some-passes and
--- pass-some, most-pass and pass-most)
+-- ---- the same as tests, for sets of servers 1 to n (proofs/Majorities: some-passes and pass-some, most-pass and pass-most)
 
 -- 1 for a test that passes, 0 for one that fails
 abbrev pub one : Bool → ℕ
@@ -70,10 +69,6 @@ mask (suc k) p = withNext (mask k p) k (p (suc k))
 abbrev pub passing : ℕ → (ℕ → Bool) → ℕ → ℕ
 passing n p q = bitAnd q (mask n p)
 
--- every member of q passes p
-abbrev pub allPass : ℕ → (ℕ → Bool) → ℕ → Bool
-allPass n p q = eqb (passing n p q) q
-
 -- some member of q passes p
 abbrev pub somePass : ℕ → (ℕ → Bool) → ℕ → Bool
 somePass n p q = ltb 0 (passing n p q)
@@ -92,3 +87,7 @@ lowestFrom (suc n) s p = let later = lowestFrom n (suc s) p in cond (p s) s late
 -- the lowest number from 1 to n that passes p, and 0 where none does
 abbrev pub lowestUpTo : ℕ → (ℕ → Bool) → ℕ
 lowestUpTo n p = lowestFrom n 1 p
+
+-- the lowest member of q among the servers 1 to n that passes p, and 0 where none does (proofs/Lowest: lowest-in, lowest-some)
+abbrev pub lowestIn : ℕ → (ℕ → Bool) → ℕ → ℕ
+lowestIn n p q = lowestUpTo n (λ s. member s q && p s)

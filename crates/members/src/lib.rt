@@ -3,7 +3,7 @@ pub mod apart;
 
 ghost use mathlib.Core.Path.{_≡_};
 ghost use Prim.Native.Nat.{_^_, _<_};
-ghost use Rattle.members.specs.Members.{member, majority, oneApart, within, withNext};
+ghost use Rattle.members.specs.Members.{member, majority, oneApart, within, withNext, lowestUpTo};
 ghost use Rattle.members.specs.Rules.{allMeet, mayFollow};
 
 // Server s is in m.
@@ -65,4 +65,14 @@ pub fn with_next(m: u16, k: usize, b: bool) -> u16
         return (1 << k) + m;
     }
     m
+}
+
+// The lowest server of m, and 0 where it is empty.
+pub fn lowest_member(m: u16) -> u8
+    ensures { λ r. ⌜ r ≡ lowestUpTo 16 (λ s. member s m) ⌝ }
+{
+    if m == 0 {
+        return 0;
+    }
+    u16::trailing_zeros(m) as u8 + 1
 }

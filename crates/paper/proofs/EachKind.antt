@@ -14,11 +14,11 @@ use Rattle.members.specs.Members.{Member, member, within, majority, mostPass}
 use Rattle.members.specs.Rules.{MajoritiesMeet, mayFollow}
 use Rattle.members.proofs.Said.{All}
 use Rattle.members.proofs.Masks.{member-pos}
-use Rattle.members.proofs.Majorities.{majority-is, is-majority, all-meet, one-apart, most-map, pass-all, none-passes, most-pass, pass-most}
+use Rattle.members.proofs.Majorities.{majority-is, is-majority, all-meet, one-apart, most-map, none-passes, most-pass, pass-most}
 use Rattle.members.proofs.Pairs.{meet-all}
 use Rattle.members.proofs.Meaning.{within-is}
 use Rattle.algorithm.specs.Table.{Log, Server, Table, count, server, primary, secondary, termAt, positions, last, prefix, mark, ceiling, held}
-use Rattle.algorithm.specs.Actions.{sendRefusals, spreadRefusals, writeRefusals, joins, fetchRefusals, rollBackRefusals, largerTerm, newerConfig, logAhead, electRefusals, sameConfig, sameTerm, someMarked, holdsCommitted, reconfigureRefusals, supportsAt, commitRefusals, entryRefusals, markedOtherwise, lacksEntry}
+use Rattle.algorithm.specs.Actions.{sendRefusals, spreadRefusals, writeRefusals, joins, fetchRefusals, rollBackRefusals, largerTerm, newerConfig, logAhead, electRefusals, sameConfig, sameTerm, someMarked, holdsCommitted, reconfigureRefusals, opposesAt, commitRefusals, entryRefusals, markedOtherwise, lacksEntry}
 use Rattle.algorithm.specs.Run.{known}
 use Rattle.algorithm.proofs.Sound.{SoundTable, here-sound, SoundServer}
 use Rattle.algorithm.proofs.Logs.{HasEntry}
@@ -144,13 +144,14 @@ module _ (t : Table) (sound : SoundTable t) (i : ℕ) where
             let last-own : Fails (lacksEntry a) =
             none-of (eqb (length l) 0) (not (eqb (last l) (a .term))) (fails (λ y. let none : length l ≡ 0 = equal y in omega arith))
             (unrefuted (is-equal (sym (last-shown l) ∙ own))) in
-            let all = pass-all (count t) q width (supportsAt t i (length l)) (λ j u. together (is-equal (committed j u .1)) (is-held (holds j u))) in
+            let supported =
+            none-some (count t) q width (opposesAt t i (length l)) (λ j u. unrefuted (together (is-equal (committed j u .1)) (is-held (holds j u)))) in
             let unmarked : Fails (markedOtherwise t i) =
             fails (λ y.
             let (nonzero, differs) = both {a = not (eqb (mark t (length l)) 0)} {b = not (eqb (mark t (length l)) (a .term))} y in
             let nz : mark t (length l) ≢ 0 = unequal (record { no = nonzero .yes }) in
             unequal {a = mark t (length l)} (record { no = differs .yes }) (once (mark t (length l)) (ap (mark t) (length-shown l), omega arith))) in
-            (unrefuted (role-primary whole .1 leads), (unrefuted (a-majority quorum), (last-own, (unrefuted all, (unmarked, tt)))))
+            (unrefuted (role-primary whole .1 leads), (unrefuted (a-majority quorum), (last-own, (supported, (unmarked, tt)))))
 
     pub elect-kind : Exactly t (electRefusals t i q) (BecomeLeader i (setShown q))
     elect-kind = (there, back)

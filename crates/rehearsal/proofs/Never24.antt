@@ -19,7 +19,7 @@ use Rattle.algorithm.proofs.Runs.{play-sound, play-append}
 use Rattle.algorithm.proofs.Demands.{not-given-24}
 use Rattle.image.specs.Image.{image}
 use Rattle.buffer.specs.Buffer.{text, digits, decimal, field, fields, Wrote}
-use Rattle.report.specs.Lines.{pair, reply, repliedLine, cutLine, tooLongLine, letter, shownRow, rowLine, marksLine, numbered, repliedLines, rowLines, tableLines, wholeActions, cutLines, playedLines}
+use Rattle.report.specs.Lines.{pair, beside, reply, repliedLine, cutLine, tooLongLine, letter, shownRow, rowLine, marksLine, numbered, repliedLines, rowLines, tableLines, wholeActions, cutLines, playedLines}
 use Rattle.report.proofs.OrderLaws.{flatten-append}
 use Rattle.rehearsal.specs.Programs.{longest, inputLines, printed}
 use Rattle.rehearsal.proofs.PrintedTheorems.{image-lines}
@@ -135,24 +135,30 @@ value-digits (suc k) n l h =
     ]
 
 -- what stands behind the number of a refusal is a space, or the end of the line
-behind : (s : Shown) (n : ℕ) (m : List ℕ) → value n (pair s ++ (text "\n" ++ m)) ≡ n
-unfolding pair fields field value
-behind s n m = cond-elim (λ (l : List ℕ). value n (l ++ (text "\n" ++ m)) ≡ n) (eqb (s .old) 0) (λ _. refl) (λ _. refl)
+behind : (s : Shown) (n : ℕ) (m : List ℕ) → value n (beside s ++ (text "\n" ++ m)) ≡ n
+unfolding beside pair fields field value
+behind s n m =
+    let line : List ℕ → Type 0 = λ l. value n (l ++ (text "\n" ++ m)) ≡ n in
+    cond-elim line (eqb (s .server) 0) (λ _. cond-elim line (eqb (s .old) 0) (λ _. refl) (λ _. refl)) (λ _. refl)
 
 pair-plain : (s : Shown) → plain (pair s) ≡ true
 unfolding pair plain
 pair-plain s = cond-elim (λ (l : List ℕ). plain l ≡ true) (eqb (s .old) 0) (λ _. refl) (λ _. fields-plain (s .old ∷ s .new ∷ []))
 
-refused-without : (n : ℕ) (s : Shown) → n ≢ 24 → (m : List ℕ) → Without m → Without (text " refused" ++ field n ++ pair s ++ (text "\n" ++ m))
+beside-plain : (s : Shown) → plain (beside s) ≡ true
+unfolding beside plain
+beside-plain s = cond-elim (λ (l : List ℕ). plain l ≡ true) (eqb (s .server) 0) (λ _. pair-plain s) (λ _. field-plain (s .server))
+
+refused-without : (n : ℕ) (s : Shown) → n ≢ 24 → (m : List ℕ) → Without m → Without (text " refused" ++ field n ++ beside s ++ (text "\n" ++ m))
 unfolding field decimal plain Without value
 refused-without n s ne m h =
     let line : List ℕ = text "\n" ++ m in
-    let rest : List ℕ = (decimal n ++ pair s) ++ line in
-    let parts : rest ≡ decimal n ++ (pair s ++ line) = append-assoc (decimal n) (pair s) line in
+    let rest : List ℕ = (decimal n ++ beside s) ++ line in
+    let parts : rest ≡ decimal n ++ (beside s ++ line) = append-assoc (decimal n) (beside s) line in
     before (text " re") (text "fused " ++ rest) refl (
-      λ y e. ne (sym (ap (value 0) parts ∙ value-digits (suc n) n (pair s ++ line) (omega arith) ∙ behind s n m) ∙ ap (λ (l : List ℕ). value 0 (drop 6 l)) e),
+      λ y e. ne (sym (ap (value 0) parts ∙ value-digits (suc n) n (beside s ++ line) (omega arith) ∙ behind s n m) ∙ ap (λ (l : List ℕ). value 0 (drop 6 l)) e),
       before (text "used ") rest refl
-          (rw parts (before (decimal n) (pair s ++ line) (decimal-plain n) (before (pair s) line (pair-plain s) (before (text "\n") m refl h)))),
+          (rw parts (before (decimal n) (beside s ++ line) (decimal-plain n) (before (beside s) line (beside-plain s) (before (text "\n") m refl h)))),
     )
 
 reply-without : (a : Answer) → a .number ≢ 24 → (m : List ℕ) → Without m → Without (reply a ++ (text "\n" ++ m))

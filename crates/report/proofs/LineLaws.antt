@@ -10,7 +10,7 @@ use Rattle.algorithm.specs.Table.{positions, trimmed}
 use Rattle.table.specs.declared.rows.Row.{Row}
 use Rattle.table.proofs.MarkLaws.{trimmed-take}
 use Rattle.buffer.specs.Buffer.{text, decimal, numberRoom, field, fieldRoom, fields, Wrote, WroteShort}
-use Rattle.report.specs.Lines.{pair, reply, repliedLine, cutLine, badSiteLine, tooLongLine, letter, figures, shownRow, marksLine, replyRoom, repliedRoom, rowRoom}
+use Rattle.report.specs.Lines.{pair, beside, reply, repliedLine, cutLine, badSiteLine, tooLongLine, letter, figures, shownRow, marksLine, replyRoom, repliedRoom, rowRoom}
 use Rattle.buffer.proofs.WroteLaws.{wrote-none, exact, then-short}
 use Rattle.buffer.proofs.FieldLaws.{one-field, more-fields}
 
@@ -41,8 +41,21 @@ module _ (s : Shown) (x : ℕ) (is : x ≡ s .old) (b : List ℕ) (at : ℕ) whe
   pair-shown b₁ b₂ d e y h too f g =
       rw (ne-eqb (s .old) 0 (λ z. h (is ∙ z)), ← is, ← too) (more-fields (x ∷ []) (y ∷ []) (one-field x f) (one-field y g))
 
+-- x is the server as the code has read it
+module _ (s : Shown) (x : ℕ) (is : x ≡ s .server) (b b₁ : List ℕ) (at e : ℕ) where
+  pub no-server : x ≡ 0 → WroteShort (2 * fieldRoom) b b₁ at (pair s) e → WroteShort (2 * fieldRoom) b b₁ at (beside s) e
+  unfolding beside
+  no-server h w = rw (eq-eqb (s .server) 0 (sym is ∙ h)) w
+
+  pub server-shown : (b₂ : List ℕ) (d : ℕ) → (x ≡ 0 → ⊥) → Wrote b b₂ at (text " at") d → WroteShort fieldRoom b₂ b₁ d (field x) e
+      → WroteShort (2 * fieldRoom) b b₁ at (beside s) e
+  unfolding beside
+  server-shown b₂ d h w f =
+      let short = then-short (exact w) f in
+      rw (ne-eqb (s .server) 0 (λ z. h (is ∙ z)), ← is) (record { wrote = short .wrote; short = omega (arith, short .short) })
+
 pub refused : (b b₁ b₂ b₃ : List ℕ) (at c d e : ℕ) (a : Answer) (k : ℕ) → k ≡ a .number → (k ≡ 0 → ⊥) → Wrote b b₁ at (text " refused") c
-    → WroteShort fieldRoom b₁ b₂ c (field k) d → WroteShort (2 * fieldRoom) b₂ b₃ d (pair (a .shown)) e → WroteShort replyRoom b b₃ at (reply a) e
+    → WroteShort fieldRoom b₁ b₂ c (field k) d → WroteShort (2 * fieldRoom) b₂ b₃ d (beside (a .shown)) e → WroteShort replyRoom b b₃ at (reply a) e
 unfolding reply
 refused b b₁ b₂ b₃ at c d e a k is h w f g = rw (ne-eqb (a .number) 0 (λ z. h (is ∙ z)), ← is) (then-short (then-short (exact w) f) g)
 

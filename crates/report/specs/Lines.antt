@@ -19,9 +19,13 @@ use Rattle.buffer.specs.Buffer.{text, numberRoom, decimal, fieldRoom, field, fi
 unfoldable pub pair : Shown → List ℕ
 pair s = cond (eqb (s .old) 0) [] (fields (s .old ∷ s .new ∷ []))
 
+-- the server that stands in the way, where one is shown; and else two majorities
+unfoldable pub beside : Shown → List ℕ
+beside s = cond (eqb (s .server) 0) (pair s) (text " at" ++ field (s .server))
+
 -- a reply: 0 is taken
 unfoldable pub reply : Answer → List ℕ
-reply a = unlessRefused (a .number) (text " taken") (text " refused" ++ field (a .number) ++ pair (a .shown))
+reply a = unlessRefused (a .number) (text " taken") (text " refused" ++ field (a .number) ++ beside (a .shown))
 
 -- action k has the reply a
 unfoldable pub repliedLine : ℕ → Answer → List ℕ
@@ -125,7 +129,7 @@ plan =
     ++ actionBytes 2 1 0 15
     ++ actionBytes 1 3 0 6
 
--- what that case must print
+-- what that case must print, with the server that document 02 adds to its ninth line
 abbrev pub lines : List String
 lines =
     "1 taken\n"
@@ -136,7 +140,7 @@ lines =
     ∷ "6 refused 16\n"
     ∷ "7 taken\n"
     ∷ "8 taken\n"
-    ∷ "9 refused 8\n"
+    ∷ "9 refused 8 at 2\n"
     ∷ "row 1 P 1 15 2 1 1 1\n"
     ∷ "row 2 S 1 7 1 1 1 1\n"
     ∷ "row 3 S 0 7 1 0 0 0\n"

@@ -8,7 +8,7 @@ ghost use Rattle.algorithm.specs.Run.{answerIn};
 ghost use Rattle.table.specs.Layout.{tableIn};
 ghost use Rattle.table.specs.Slice.{Held};
 ghost use Rattle.buffer.specs.Buffer.{text, field, fieldRoom, fields, WroteShort};
-ghost use Rattle.report.specs.Lines.{pair, reply, replyRoom, letter, figures};
+ghost use Rattle.report.specs.Lines.{pair, beside, reply, replyRoom, letter, figures};
 use algorithm::PRIMARY;
 use algorithm::Position;
 use buffer::put_field;
@@ -32,6 +32,20 @@ fn put_pair(buffer: &mut [u8], at: usize, r: &[u8]) -> usize
     put_field(buffer, end, half(r, 6) as u32)
 }
 
+// The server that stands in the way, if the eight bytes of a reply show one; else two majorities, if they do.
+fn put_beside(buffer: &mut [u8], at: usize, r: &[u8]) -> usize
+    requires { ⌜ length (now r) ≡ 8 ⌝ }
+    requires { ⌜ at + 2 * fieldRoom ≤ length (now buffer) ⌝ }
+    ensures { λ e. ⌜ WroteShort (2 * fieldRoom) (now (buffer .entry)) (now (buffer .exit)) at (beside (answerIn (now (r .entry)) .shown)) e ⌝ }
+{
+    let server = wide(r[1]);
+    if server == 0 {
+        return put_pair(buffer, at, r);
+    }
+    let end = put_word(buffer, at, b" at");
+    put_field(buffer, end, server)
+}
+
 // A reply by its eight bytes.
 pub(crate) fn put_reply(buffer: &mut [u8], at: usize, r: &[u8]) -> usize
     requires { ⌜ length (now r) ≡ 8 ⌝ }
@@ -44,7 +58,7 @@ pub(crate) fn put_reply(buffer: &mut [u8], at: usize, r: &[u8]) -> usize
     }
     let end = put_word(buffer, at, b" refused");
     let end = put_field(buffer, end, number);
-    put_pair(buffer, end, r)
+    put_beside(buffer, end, r)
 }
 
 fn put_role(buffer: &mut [u8], at: usize, role: u32) -> usize

@@ -2,27 +2,44 @@
 use Prim.Native.Nat.{ℕ, zero, suc, _≤_, _<_}
 use native.Mathlib.Omega.{arith}
 use mathlib.Core.Logic.{_≢_}
-use mathlib.Core.Path.{_≡_, refl, sym, ap, _∙_}
+use mathlib.Core.Path.{_≡_, refl, sym, ap, subst, _∙_}
 use mathlib.Core.Bool.{Bool, true, false, not, _||_, _&&_}
 use mathlib.Core.List.{[], _∷_}
-use lib.Dec.{eqb, ltb}
+use lib.Dec.{T, eqb, ltb}
+use lib.Bits.{bitXor}
 use lib.ListN.{length}
-use Rattle.members.specs.Members.{majority, passing, allPass, somePass}
-use borrow.Author.Tests.{ne-eqb}
+use Rattle.members.specs.Members.{member, within, majority, passing, somePass, lowestUpTo, lowestIn}
+use borrow.Author.Tests.{ne-eqb, ltb-true}
 use Rattle.words.specs.Refusal.{answer}
 use Rattle.words.proofs.Tests.{false-fails}
 use Rattle.members.specs.Rules.{allMeet, mayFollow, oldApart, newApart, lowestPair}
 use Rattle.members.specs.declared.apart.Pair.{Pair}
+use Rattle.members.proofs.Masks.{without-passing}
 use Rattle.members.proofs.Majorities.{other-rule}
+use Rattle.members.proofs.Lowest.{lowest-passing, lowest-some}
 use Rattle.members.proofs.Pairs.{some-apart, majority-range}
-use Rattle.algorithm.specs.declared.Reply.the-variants.{Refused, Apart}
+use Rattle.algorithm.specs.declared.Reply.the-variants.{Refused, RefusedAt, Apart}
 use Rattle.algorithm.specs.Run.{replyOf}
-use Rattle.algorithm.specs.Table.{Log, Table, count, server, mark, last}
-use Rattle.algorithm.specs.Actions.{apartShown, largerTerm, newerConfig, logAhead, sameTerm, someMarked, holdsCommitted, q1, q2, p1, supportsAt}
+use Rattle.algorithm.specs.Table.{Log, Table, count, server, mark, last, mostServers}
+use Rattle.algorithm.specs.Actions.{oneServer, apartShown, largerTerm, newerConfig, logAhead, sameTerm, someMarked, holdsCommitted, q1, q2, p1, supportsAt, opposesAt}
 use Rattle.questions.specs.declared.votes.Objections.{Objections}
 use Rattle.questions.specs.declared.shares.Shares.{Shares}
 use Rattle.questions.specs.Questions.{objecting, alike}
+use Rattle.algorithm.proofs.Seen.{within-width}
 use Rattle.algorithm.proofs.Replies.{replying}
+
+-- x are the members of q that have a fault
+module _ (n : ℕ) (fault : ℕ → Bool) (q x : ℕ) (e : x ≡ passing n fault q) where
+  some-told : ltb 0 x ≡ somePass n fault q
+  some-told = ap (ltb 0) e
+
+  -- the refusal k of the fault, with the lowest of them as the code has found it
+  fault-told : (k r : ℕ) → 0 < k → n ≤ 16 → ltb 0 x ≡ true → r ≡ lowestUpTo 16 (λ s. member s x)
+      → RefusedAt k r ≡ replyOf (answer k (oneServer (lowestIn n fault q)))
+  fault-told k r positive few o f =
+      let is : r ≡ lowestIn n fault q = f ∙ ap (λ (m : ℕ). lowestUpTo 16 (λ s. member s m)) e ∙ lowest-passing n q fault 16 few in
+      let some : 0 < lowestIn n fault q = ltb-true 0 (lowestIn n fault q) (lowest-some n q fault ∙ sym some-told ∙ o) in
+      rw (is, ne-eqb k 0 (omega arith), ne-eqb (lowestIn n fault q) 0 (omega arith))
 
 -- some member of q objects to an election
 module _ (t : Table) (i q : ℕ) (o : Objections) (e : o ≡ objecting t i q (count t)) where
@@ -34,6 +51,20 @@ module _ (t : Table) (i q : ℕ) (o : Objections) (e : o ≡ objecting t i q (co
 
   pub ahead-told : ltb 0 (o .ahead) ≡ somePass (count t) (logAhead t i) q
   ahead-told = ap (λ (u : Objections). ltb 0 (u .ahead)) e
+
+  -- r is the lowest that does
+  module _ (few : count t ≤ mostServers) (r : ℕ) where
+    pub larger-at : ltb 0 (o .larger) ≡ true → r ≡ lowestUpTo 16 (λ s. member s (o .larger))
+        → RefusedAt 8 r ≡ replyOf (answer 8 (oneServer (lowestIn (count t) (largerTerm t i) q)))
+    larger-at = fault-told (count t) (largerTerm t i) q (o .larger) (ap (λ (u : Objections). u .larger) e) 8 r (omega arith) few
+
+    pub newer-at : ltb 0 (o .newer) ≡ true → r ≡ lowestUpTo 16 (λ s. member s (o .newer))
+        → RefusedAt 9 r ≡ replyOf (answer 9 (oneServer (lowestIn (count t) (newerConfig t i) q)))
+    newer-at = fault-told (count t) (newerConfig t i) q (o .newer) (ap (λ (u : Objections). u .newer) e) 9 r (omega arith) few
+
+    pub ahead-at : ltb 0 (o .ahead) ≡ true → r ≡ lowestUpTo 16 (λ s. member s (o .ahead))
+        → RefusedAt 10 r ≡ replyOf (answer 10 (oneServer (lowestIn (count t) (logAhead t i) q)))
+    ahead-at = fault-told (count t) (logAhead t i) q (o .ahead) (ap (λ (u : Objections). u .ahead) e) 10 r (omega arith) few
 
 -- those of the set m that are alike, where the code has read m
 module _ (t : Table) (i m : ℕ) (o : Shares) (e : o ≡ alike t i m (count t)) (f : m ≡ server t i .config .set) where
@@ -55,9 +86,18 @@ module _ (t : Table) (i : ℕ) (s : Bool) (e : s ≡ someMarked (t .marks) (serv
   pub unsafe-told : s ≡ false → false ≡ p1 t i
   unsafe-told o = rw (sym e ∙ o)
 
--- every member of q holds the last entry of server i: they are its supporters there
-pub all-told : (t : Table) (i q p x : ℕ) → x ≡ passing (count t) (supportsAt t i p) q → p ≡ length (server t i .log) → eqb x q ≡ allPass (count t) (supportsAt t i (length (server t i .log))) q
-all-told t i q p x e f = rw (e, f)
+-- the members of q, a set of the table's servers, without the supporters x of server i at its last entry
+module _ (t : Table) (i q p x : ℕ) (e : x ≡ passing (count t) (supportsAt t i p) q) (f : p ≡ length (server t i .log)) (w : within q (count t) ≡ true) where
+  opposing : bitXor q x ≡ passing (count t) (opposesAt t i (length (server t i .log))) q
+  opposing =
+      rw (e, f) (without-passing (count t) q (supportsAt t i (length (server t i .log))) (within-width (count t) (record { yes = subst T (sym w) tt })))
+
+  pub opposed-told : ltb 0 (bitXor q x) ≡ somePass (count t) (opposesAt t i (length (server t i .log))) q
+  opposed-told = ap (ltb 0) opposing
+
+  pub opposed-at : count t ≤ mostServers → (r : ℕ) → ltb 0 (bitXor q x) ≡ true → r ≡ lowestUpTo 16 (λ s. member s (bitXor q x))
+      → RefusedAt 23 r ≡ replyOf (answer 23 (oneServer (lowestIn (count t) (opposesAt t i (length (server t i .log))) q)))
+  opposed-at few r = fault-told (count t) (opposesAt t i (length (server t i .log))) q (bitXor q x) opposing 23 r (omega arith) few
 
 -- where refusal 22 does not hold, the log has an entry
 pub has-entry : (l : Log) (v p : ℕ) → (eqb (length l) 0 || not (eqb (last l) v)) ≡ false → p ≡ length l → 1 ≤ p
@@ -112,5 +152,5 @@ pub otherwise-told : (t : Table) (x y p q c : ℕ) (r : Bool) → r ≡ eqb x y 
     → (not (eqb x 0) && not r) ≡ (not (eqb (mark t q) 0) && not (eqb (mark t q) c))
 otherwise-told t x y p q c r o e f g = rw (o, e, f, g)
 
--- what finds the first refusal from tests on sets
-pub ruleset weighing = (replying, larger-told, newer-told, ahead-told, config-told, term-told, all-told)
+-- what finds the first refusal from tests on sets, with the server that it shows
+pub ruleset weighing = (replying, larger-told, newer-told, ahead-told, larger-at, newer-at, ahead-at, config-told, term-told, opposed-told, opposed-at)

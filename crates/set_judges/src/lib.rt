@@ -1,13 +1,13 @@
 // Elect, reconfigure and commit: the kinds that look at the servers of a set.
 ghost use mathlib.Core.Path.{_≡_};
-ghost use mathlib.Core.Bool.{false};
+ghost use mathlib.Core.Bool.{true, false};
 ghost use lib.Dec.{eqb};
 ghost use mathlib.Core.List.{_++_};
 ghost use Prim.Native.Nat.{_<_};
-ghost use Rattle.members.specs.Members.{majority, passing};
+ghost use Rattle.members.specs.Members.{within, majority, passing};
 ghost use Rattle.members.specs.Rules.{mayFollow};
 ghost use Rattle.algorithm.specs.Table.{count, server, ceiling};
-ghost use Rattle.algorithm.specs.Actions.{apartShown, electRefusals, sameTerm, p1, majorityRefusals, markRefusals, reconfigureRefusals, lacksEntry, markedOtherwise, commitRefusals};
+ghost use Rattle.algorithm.specs.Actions.{configRefusals, logRefusals, lastTermRefusals, electRefusals, apartShown, sameTerm, p1, majorityRefusals, markRefusals, reconfigureRefusals, lacksEntry, markedOtherwise, commitRefusals};
 ghost use Rattle.words.specs.Refusal.{answer, given};
 ghost use Rattle.algorithm.specs.Run.{replyOf};
 ghost use Rattle.table.specs.Layout.{tableIn};
@@ -21,6 +21,7 @@ use comparisons::lacks_role;
 use members::apart::lowest_apart;
 use members::is_majority;
 use members::is_member;
+use members::lowest_member;
 use members::may_follow;
 use questions::marks::holding;
 use questions::marks::is_marked;
@@ -68,6 +69,31 @@ fn is_last_version(t: &[u8], i: usize) -> bool
     version_of(t, i).0 == CEILING
 }
 
+// Refusals 8 to 11: the voters' objections, and the last term.
+fn judge_votes(t: &[u8], i: usize, q: u16) -> Reply
+    requires { ⌜ Held (now t) ⌝ }
+    requires { ⌜ Within (now t) i ⌝ }
+    ensures { λ r. ⌜ r ≡ replyOf (given (configRefusals (tableIn (now (t .entry))) i q ++ (logRefusals (tableIn (now (t .entry))) i q ++ lastTermRefusals (tableIn (now (t .entry))) i))) ⌝ }
+{
+    let o = poll(t, i, q);
+    let larger = 0 < o.larger;
+    if larger {
+        return Reply::RefusedAt(8, lowest_member(o.larger));
+    }
+    let newer = 0 < o.newer;
+    if newer {
+        return Reply::RefusedAt(9, lowest_member(o.newer));
+    }
+    let ahead = 0 < o.ahead;
+    if ahead {
+        return Reply::RefusedAt(10, lowest_member(o.ahead));
+    }
+    if is_last_term(t, i) {
+        return Reply::Refused(11);
+    }
+    Reply::Taken
+}
+
 pub fn judge_elect(t: &[u8], i: usize, q: u16) -> Reply
     requires { ⌜ Held (now t) ⌝ }
     requires { ⌜ Within (now t) i ⌝ }
@@ -76,23 +102,7 @@ pub fn judge_elect(t: &[u8], i: usize, q: u16) -> Reply
     if !is_majority_of(t, i, q) | !is_member(i as u8, q) {
         return Reply::Refused(7);
     }
-    let o = poll(t, i, q);
-    let larger = 0 < o.larger;
-    if larger {
-        return Reply::Refused(8);
-    }
-    let newer = 0 < o.newer;
-    if newer {
-        return Reply::Refused(9);
-    }
-    let ahead = 0 < o.ahead;
-    if ahead {
-        return Reply::Refused(10);
-    }
-    if is_last_term(t, i) {
-        return Reply::Refused(11);
-    }
-    Reply::Taken
+    judge_votes(t, i, q)
 }
 
 // P1, where `same` are the members of the set that have the term of server i.
@@ -187,6 +197,7 @@ fn is_marked_otherwise(t: &[u8], i: usize) -> bool
 pub fn judge_commit(t: &[u8], i: usize, q: u16) -> Reply
     requires { ⌜ Held (now t) ⌝ }
     requires { ⌜ Within (now t) i ⌝ }
+    requires { ⌜ within q (count (tableIn (now t))) ≡ true ⌝ }
     ensures { λ r. ⌜ r ≡ replyOf (given (commitRefusals (tableIn (now (t .entry))) i q)) ⌝ }
 {
     if lacks_role(t, i, PRIMARY) {
@@ -198,9 +209,10 @@ pub fn judge_commit(t: &[u8], i: usize, q: u16) -> Reply
     if lacks_entry(t, i) {
         return Reply::Refused(22);
     }
-    let held = supporters(t, i, q, length_of(t, i)) == q;
-    if !held {
-        return Reply::Refused(23);
+    let against = q ^ supporters(t, i, q, length_of(t, i));
+    let opposed = 0 < against;
+    if opposed {
+        return Reply::RefusedAt(23, lowest_member(against));
     }
     if is_marked_otherwise(t, i) {
         return Reply::Refused(24);

@@ -10,6 +10,7 @@ use Rattle.words.specs.Lists.{every}
 use Rattle.words.specs.Refusal.{Shown, nothing, Refusal, refuseShowing, refuse, first, firstShown, Answer, answer, given, holdsIn}
 use Rattle.words.proofs.Tests.{Passes, Fails, false-fails, and-told}
 use Rattle.words.proofs.Choice.{cond-elim}
+use Rattle.words.proofs.Lists.{every-cons}
 
 -- ---- a list of refusals, read by their numbers
 
@@ -96,6 +97,14 @@ quiet-shown (r ∷ rs) = cond-elim (λ (s : Shown). s ≡ nothing) (r .holds) (�
 abbrev pub EachHeld : (Answer → Type 0) → List Refusal → Type 0
 EachHeld P [] = Unit {0}
 EachHeld P (r ∷ rs) = (Passes (r .holds) → P (answer (r .number) (r .shows))) × EachHeld P rs
+
+-- P is said of each answer that shows nothing and whose number passes a test: so it is of quiet refusals with such numbers
+pub quiet-each : (P : Answer → Type 0) (test : ℕ → Bool) → ((k : ℕ) → Passes (test k) → P (answer k nothing)) → (rs : List Refusal)
+    → T (every (λ r. test (r .number)) rs) → EachHeld P (quiet rs)
+quiet-each P test each [] h = tt
+quiet-each P test each (r ∷ rs) h =
+    let (here, rest) = every-cons (λ r. test (r .number)) r rs (record { yes = h }) in
+    (λ _. each (r .number) here, quiet-each P test each rs (rest .yes))
 
 pub each-append : (P : Answer → Type 0) (xs ys : List Refusal) → EachHeld P xs → EachHeld P ys → EachHeld P (xs ++ ys)
 each-append P [] ys e f = f

@@ -62,6 +62,15 @@ module _ {a b : Bool} where
       go true b h = inl (record { yes = tt })
       go false b h = inr (refuted h)
 
+-- two tests do not both pass exactly where one of them fails
+pub not-both : (a b : Bool) → Passes (not (a && b)) → Fails a ⊎ Fails b
+not-both true b h = inr (record { no = h .yes })
+not-both false b h = inl (record { no = tt })
+
+pub one-fails : (a b : Bool) → Fails a ⊎ Fails b → Passes (not (a && b))
+one-fails true b h = ⊎-elim (λ f. absurd (f .no)) (λ f. record { yes = f .no }) h
+one-fails false b h = record { yes = tt }
+
 pub fails-false : {b : Bool} → Fails b → b ≡ false
 fails-false {b = true} h = absurd (h .no)
 fails-false {b = false} h = refl

@@ -10,7 +10,8 @@ use Rattle.engine.proofs.step.Tie as tie
 
 own-refuses : tie.Need-returns-3
 own-refuses c =
-    let other : c .before .judge .result ≡ Taken → ⊥ = λ e. ⊎-elim (λ k. omega arith) (λ k. omega arith) (rw e at (c .match2 .keys2)) in
+    let other : c .before .judge .result ≡ Taken → ⊥ =
+    λ e. ⊎-elim (λ k. omega arith) (⊎-elim (λ k. omega arith) (λ k. omega arith)) (rw e at (c .match2 .keys2)) in
     search (needs, own-refused)
 
 pub step-spec : {M : Type 1} → statement M

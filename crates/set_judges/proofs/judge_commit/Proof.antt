@@ -37,6 +37,7 @@ judge-commit-spec =
     returns-3
     (λ c κs. search needs)
     (λ c κs. search needs)
+    (λ c κs. search needs)
     returns-4
     is-marked-otherwise-requires
     returns-5
