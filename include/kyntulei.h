@@ -69,8 +69,8 @@
  *    3  a byte that this kind does not name is not 0
  *    4  server i, or j where the kind names it, is not one of 1..n
  *    5  the set named is empty or reaches past server n
- *    6  role: reconfigure, send, write and commit want a primary i; fetch and roll back a secondary i; send a
- *       secondary j
+ *    6  role: reconfigure, write and commit want a primary i; fetch and roll back a secondary i; send a secondary j,
+ *       whatever i is
  *    7  elect, commit: the set is not within i's set or not more than half of it; elect: i itself is missing
  *    8  elect: somebody in the set is at a later term than i; byte 1 of the reply says who, and so it does of 9 and 10
  *    9  elect: somebody in the set has a newer configuration than i (the configuration's term counts before its

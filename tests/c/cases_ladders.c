@@ -93,15 +93,13 @@ static void climb_send(const struct engine *engine)
     climb_to_fields(&scene, &action, SEND, "send's ladder");
     refused(&scene, act(SEND, 1, 5, 0), 4, "send to server 5 of 4");
     action = act(SEND, 1, 2, 0);
-    refused(&scene, action, 6, "send by a secondary");
-    give_role(&scene, 1, PRIMARY, 1);
     refused(&scene, action, 6, "send to a primary");
     give_role(&scene, 2, SECONDARY, 1);
     refused(&scene, action, 17, "send of an equal configuration");
     give_configuration(&scene, 1, 3, 2, 0);
     struct scene after = scene;
     give_configuration(&after, 2, 3, 2, 0);
-    taken(&scene, action, &after, "send of a larger version");
+    taken(&scene, action, &after, "send of a larger version by a secondary");
 }
 
 static void climb_spread(const struct engine *engine)

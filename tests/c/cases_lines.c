@@ -97,6 +97,7 @@ static void actions_on_oneself(const struct engine *engine)
     give_role(&scene, 1, PRIMARY, 1);
     GIVE_LOG(&scene, 2, 1);
     refused(&scene, act(SEND, 1, 1, 0), 6, "send 1 to 1 at a primary");
+    refused(&scene, act(SEND, 2, 2, 0), 17, "send 2 to 2 at a secondary");
     refused(&scene, act(SPREAD, 1, 1, 0), 18, "spread 1 to 1");
     refused(&scene, act(FETCH, 2, 2, 0), 20, "fetch to 2 from 2");
     refused(&scene, act(ROLL_BACK, 2, 2, 0), 21, "roll back 2 against 2");

@@ -194,7 +194,7 @@ static uint32_t judge_reconfigure(const uint8_t *table, const struct action *act
 
 static uint32_t judge_send(const uint8_t *sender, const uint8_t *receiver)
 {
-    if (word(sender, ROLE) != PRIMARY || word(receiver, ROLE) != SECONDARY) {
+    if (word(receiver, ROLE) != SECONDARY) {
         return WRONG_ROLE;
     }
     return configuration_is_newer(sender, receiver) ? TAKEN : NOT_NEWER;

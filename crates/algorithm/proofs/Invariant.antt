@@ -1,5 +1,5 @@
 -- The invariant of the algorithm without logs, and that a step keeps it. A step is any change under which terms and configurations grow,
--- and at most one configuration is new. Of sets of servers it uses that majorities meet, and of a sender not that it is primary.
+-- and at most one configuration is new. Of sets of servers it uses only that majorities meet.
 -- Assumes nothing.
 use Prim.Native.Nat.{ℕ, _≤_, _<_}
 use mathlib.Core.Logic.{_≢_, _⊎_, inl, inr, ⊎-elim}

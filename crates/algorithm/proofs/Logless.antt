@@ -1,5 +1,5 @@
 -- The algorithm without logs and marks: roles, terms and configurations, and actions 1 to 4 alone. It allows more than document 01 does:
--- any server may send, a new set's majorities need only meet the old one's, and nothing is bounded. Assumes nothing.
+-- a new set's majorities need only meet the old one's, and nothing is bounded. Assumes nothing.
 use Prim.Native.Nat.{ℕ, _+_, _≤_, _<_}
 use mathlib.Core.Bool.{cond, not}
 use mathlib.Core.List.{List, [], _∷_, _++_}

@@ -14,7 +14,7 @@ use Rattle.words.proofs.Tests.{Passes, both, together, either, neither, refuted
 use Rattle.members.proofs.Majorities.{majority-is, may-follow, most-map, none-passes, most-pass}
 use Rattle.words.specs.Lists.{nth, put}
 use Rattle.words.specs.Refusal.{refuse}
-use Rattle.algorithm.specs.Table.{Log, Server, Table, count, server, primary, entry, entryAt, mark, withConfig, withEntry, withLog, positions, newer, last, held, prefix}
+use Rattle.algorithm.specs.Table.{Log, Server, Table, count, server, entry, entryAt, mark, withConfig, withEntry, withLog, positions, newer, last, held, prefix}
 use Rattle.algorithm.specs.Actions.{Action, elect, reconfigure, commit, send, spread, fetch, rollBack, write, unknown, actionOf, steppedDown, voted, winner, electAfter, someMarked, holdsMarked, p1, markedOtherwise, nextConfig, reconfigureAfter, sendAfter, spreadAfter, writeAfter, fetchAfter, rollBackAfter, entryRefusals, commitAfter}
 use Rattle.algorithm.specs.Run.{known, after, step, wins, wonBy}
 use Rattle.algorithm.proofs.Logless as logless
@@ -161,10 +161,9 @@ module _ (t : Table) (i j : ℕ) where
 
   send-moves : Taken t (send i j) → Moves (view t) (view (sendAfter t i j)) []
   send-moves k =
-      let (_, receiver) = neither {a = not (primary (server t i))} (k .own 6) in
       let newer : Passes (newer (server t i .config) (server t j .config)) = refuted (k .own 17) in
       moved (sendAfter t i j) (view-core t j (withConfig (server t i .config) (server t j)) (k .fit .1) refl)
-      (sets (logless.send i j) (record { secondary = equal (refuted receiver); newer = newer .yes }, tt))
+      (sets (logless.send i j) (record { secondary = equal (refuted (k .own 6)); newer = newer .yes }, tt))
 
   spread-moves : Taken t (spread i j) → Moves (view t) (view (spreadAfter t i j)) []
   spread-moves k =

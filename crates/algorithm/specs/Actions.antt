@@ -206,12 +206,12 @@ reconfigureAfter t i M =
 
 -- ---- 3: send i's configuration to j
 
--- send: 6 and 17
+-- send: 6, which looks at j alone, and 17
 abbrev pub sendRefusals : Table → ℕ → ℕ → List Refusal
 sendRefusals t i j =
     let a = server t i in
     let b = server t j in
-    refuse 6 (not (primary a) || not (secondary b)) ∷ refuse 17 (not (newer (a .config) (b .config))) ∷ []
+    refuse 6 (not (secondary b)) ∷ refuse 17 (not (newer (a .config) (b .config))) ∷ []
 
 -- j has i's configuration
 abbrev pub sendAfter : Table → ℕ → ℕ → Table

@@ -1,5 +1,5 @@
--- The worked cases of document 01 that are marked to be proved, in its order, each with what it must give, under rule 1; and those of document
--- 02 on the two rules. Assumes nothing.
+-- The worked cases of document 01 that are marked to be proved, in its order, each with what it must give, under rule 1, and behind "send 1 to 1"
+-- at a primary request (iv)'s at a secondary; and those of document 02 on the two rules. Assumes nothing.
 use Prim.Native.Nat.{ℕ}
 use mathlib.Core.List.{List, [], _∷_, _++_}
 use lib.ListN.{length, replicate}
@@ -55,6 +55,7 @@ cases =
     ∷ (length (server (run (two (1 ∷ 1 ∷ []) (2 ∷ [])) backTwice .table) 1 .log) ∷ [] gives 0 ∷ [])
     ∷ (replies (two (1 ∷ []) (1 ∷ 2 ∷ [])) (actionBytes 7 1 2 0) gives 21 ∷ [])
     ∷ (replies alone (actionBytes 3 1 1 0) gives 6 ∷ [])
+    ∷ (replies (fresh 1 1 0) (actionBytes 3 1 1 0) gives 17 ∷ [])
     ∷ (replies alone (actionBytes 4 1 1 0) gives 18 ∷ [])
     ∷ (replies (fresh 4 15 0) (actionBytes 8 1 0 3) gives 6 ∷ [])
     ∷ []

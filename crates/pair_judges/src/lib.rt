@@ -25,7 +25,7 @@ pub fn judge_send(t: &[u8], i: usize, j: usize) -> Reply
     requires { ⌜ Within (now t) j ⌝ }
     ensures { λ r. ⌜ r ≡ replyOf (given (sendRefusals (tableIn (now (t .entry))) i j)) ⌝ }
 {
-    if lacks_role(t, i, PRIMARY) | lacks_role(t, j, SECONDARY) {
+    if lacks_role(t, j, SECONDARY) {
         return Reply::Refused(6);
     }
     if !newer_config(t, j, i) {

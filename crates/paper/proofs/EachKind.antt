@@ -17,7 +17,7 @@ use Rattle.members.proofs.Masks.{member-pos}
 use Rattle.members.proofs.Majorities.{majority-is, is-majority, all-meet, one-apart, most-map, none-passes, most-pass, pass-most}
 use Rattle.members.proofs.Pairs.{meet-all}
 use Rattle.members.proofs.Meaning.{within-is}
-use Rattle.algorithm.specs.Table.{Log, Server, Table, count, server, primary, secondary, termAt, positions, last, prefix, mark, ceiling, held}
+use Rattle.algorithm.specs.Table.{Log, Server, Table, count, server, termAt, positions, last, prefix, mark, ceiling, held}
 use Rattle.algorithm.specs.Actions.{sendRefusals, spreadRefusals, writeRefusals, joins, fetchRefusals, rollBackRefusals, largerTerm, newerConfig, logAhead, electRefusals, sameConfig, sameTerm, someMarked, holdsCommitted, reconfigureRefusals, opposesAt, commitRefusals, entryRefusals, markedOtherwise, lacksEntry}
 use Rattle.algorithm.specs.Run.{known}
 use Rattle.algorithm.proofs.Sound.{SoundTable, here-sound, SoundServer}
@@ -49,17 +49,11 @@ module _ (t : Table) (sound : SoundTable t) (i : ℕ) where
     pub spread-kind : Exactly t (spreadRefusals t i j) (UpdateTerms i j)
     spread-kind = (λ none. (less (refuted (none 18)), tt), λ (x, _). (unrefuted (is-less x), tt))
 
-    pub send-kind : Passes (known (count t) i) → Exactly t (sendRefusals t i j) (SendConfig i j)
-    send-kind k =
+    pub send-kind : Exactly t (sendRefusals t i j) (SendConfig i j)
+    send-kind =
         let order = later-is (a .config .term) (a .config .version) (b .config .term) (b .config .version) in (
-          λ none.
-              let (leads, follows) = both-refuted {a = primary a} {b = secondary b} (none 6) in
-              ((role-secondary b .0 follows, order .0 (refuted (none 17))), role-primary (here-sound sound i k) .0 leads),
-          λ ((follows, older), leads). (
-            none-of (not (primary a)) (not (secondary b)) (unrefuted (role-primary (here-sound sound i k) .1 leads))
-                (unrefuted (role-secondary b .1 follows)),
-            (unrefuted (order .1 older), tt),
-          ),
+          λ none. ((role-secondary b .0 (refuted (none 6)), order .0 (refuted (none 17))), tt),
+          λ ((follows, older), _). (unrefuted (role-secondary b .1 follows), (unrefuted (order .1 older), tt)),
         )
 
     pub write-kind : Passes (known (count t) i) → Exactly t (writeRefusals t i) (ClientRequest i)

@@ -59,7 +59,7 @@ unfolding Known
 judged t s house.unknown fit k = absurd k
 judged t s (house.elect i q) (i-fits, q-fits) k = elect-kind t s i q i-fits q-fits
 judged t s (house.reconfigure i m) (i-fits, m-fits) k = reconfigure-kind t s i m i-fits m-fits
-judged t s (house.send i j) (i-fits, _) k = send-kind t s i j i-fits
+judged t s (house.send i j) fit k = send-kind t s i j
 judged t s (house.spread i j) fit k = spread-kind t s i j
 judged t s (house.write i) i-fits k = write-kind t s i i i-fits
 judged t s (house.fetch i j) fit k = fetch-kind t s i j

@@ -87,7 +87,7 @@ module _ (s z : State) (near : AlikeAt (IsServer z) z s) (sets-of : (i : ℕ) �
   pub near-narrowed : (R : ℕ) (a : Action) → OnServers z a → Narrowed R s a → Narrowed R z a
   near-narrowed R (Reconfig i new) h (top, self, single, (p, u, c)) =
       (omega (arith, near .configVersion i h), self, near-single R i h new single, (p, u, own-commit i h p u c))
-  near-narrowed R (SendConfig i j) (h, g) leads = sym (near .state i h) ∙ leads
+  near-narrowed R (SendConfig i j) h n = n
   near-narrowed R (BecomeLeader i Q) h top = omega (arith, near .term i h)
   near-narrowed R (UpdateTerms i j) h n = n
   near-narrowed R (ClientRequest i) h room = rw (near .log i h) at room

@@ -15,11 +15,4 @@ returns-3 c = search replying depth 9
 
 pub judge-send-spec : {M : Type 1} → statement M
 judge-send-spec =
-    tie.close
-    (tie.spec
-    (λ c κs. search needs)
-    (λ c κs. search needs)
-    returns
-    (λ c κs. search needs)
-    returns-2
-    returns-3)
+    tie.close (tie.spec (λ c κs. search needs) returns (λ c κs. search needs) returns-2 returns-3)
