@@ -16,7 +16,7 @@ help:
 	@echo "make rehearsals  the same on the gate's 200 inputs"
 	@echo "make c-tests     the tests in C alone, over the archive of the exported functions"
 	@echo "make contracts   whether what the pages name is there: contracts, laws, edits, places, links"
-	@echo "make bench       instructions of an action, of the other calls and of the programs, on x86-64 the calls' time too, beside plain C"
+	@echo "make bench       instructions of an action, of an entry copied, of the other calls and of the programs, on x86-64 the calls' time too, beside plain C"
 	@echo "make programs    target/bin/rehearse and target/bin/save"
 	@echo "make archive     target/staticlib/libkyntulei.a, for C to link with include/kyntulei.h"
 

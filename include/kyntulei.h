@@ -43,8 +43,8 @@
  *                           from byte 16   the log's entries, 0 to 64 of 4 bytes each
  *   The figures are those of the table slice, within the same bounds. The longest image has 4,684 bytes.
  *
- * AN ACTION has its kind in byte 0, server i in byte 1, server j in byte 2 and a set in bytes 4 and 5, low byte
- * first, of 8 bytes in all. Bytes 3, 6 and 7, and what a kind does not name below, have to be 0.
+ * AN ACTION has its kind in byte 0, server i in byte 1, server j in byte 2 and a set, or a count, in bytes 4 and 5, low
+ * byte first, of 8 bytes in all. Bytes 3, 6 and 7, and what a kind does not name below, have to be 0.
  *   1 elect        i, set   i leads, if the servers in set vote for it
  *   2 reconfigure  i, set   i's configuration gets the new set
  *   3 send         i, j     j takes over i's configuration
@@ -53,24 +53,27 @@
  *   6 fetch        i, j     i's log takes over the next entry of j's
  *   7 roll back    i, j     i's log, held against j's, loses an entry
  *   8 commit       i, set   i's last entry is marked, if the servers in set have it
+ *   9 stretch      i, j     with a count of 1 to 64 for the set: so many fetches one after another, or as many as are taken
+ *                           before one would be refused
  *
  * A REPLY has 8 bytes, as an action has. Where it is given as one number, the low byte of that is byte 0.
  *   Byte 0                  its number: 0 says taken, any other is a refusal
  *   Byte 1                  of refusals 8, 9, 10 and 23: the lowest server of the set that has the fault of that number.
  *                           Else 0
- *   Bytes 2..3              0
+ *   Byte 2                  of a stretch that is taken, how many entries were copied, 1 to 64. Else 0
+ *   Byte 3                  0
  *   Bytes 4..5, 6..7        under rule 2, of refusal 13: a majority of the old set and one of the new without a common
  *                           server, as sets, low byte first; of all such pairs the one whose old majority is the
  *                           lowest number, and among these the one with the lowest new majority. Else 0
  *
  * REFUSALS. The table keeps every byte it had; of several grounds the one with the smallest number is named.
  *    1  the table is broken (looked at before the action, so also for an action of a wrong length)
- *    2  the action's length is not 8, or its kind is not one of the eight
+ *    2  the action's length is not 8, or its kind is not one of the nine
  *    3  a byte that this kind does not name is not 0
  *    4  server i, or j where the kind names it, is not one of 1..n
- *    5  the set named is empty or reaches past server n
- *    6  role: reconfigure, write and commit want a primary i; fetch and roll back a secondary i; send a secondary j,
- *       whatever i is
+ *    5  the set named is empty or reaches past server n; the count is not 1 to 64
+ *    6  role: reconfigure, write and commit want a primary i; fetch, roll back and stretch a secondary i; send a secondary
+ *       j, whatever i is
  *    7  elect, commit: the set is not within i's set or not more than half of it; elect: i itself is missing
  *    8  elect: somebody in the set is at a later term than i; byte 1 of the reply says who, and so it does of 9 and 10
  *    9  elect: somebody in the set has a newer configuration than i (the configuration's term counts before its
@@ -87,7 +90,7 @@
  *   17  send: i's configuration is not newer than j's
  *   18  spread: i's term is not larger than j's
  *   19  write: i's log has its 64 entries
- *   20  fetch: j's log is not longer, or has another term where i's log ends
+ *   20  fetch, stretch: j's log is not longer, or has another term where i's log ends
  *   21  roll back: i's last entry is not below j's, or i's log is how j's begins
  *   22  commit: i's log is empty or ends in another term than i's own
  *   23  commit: somebody in the set is at another term or lacks i's last entry; byte 1 of the reply says who

@@ -1,5 +1,5 @@
 /* bench ENGINE WORK REPETITIONS FILE: does the work that often with the plan in FILE, by one engine, or with `turns` for the
- * engine by both in turns, and tells the median time of each. All else costs the same at any number of repetitions, so that the
+ * engine by both in turns, and tells the median time of each for doing it once. All else costs the same at any number of repetitions, so that the
  * difference of two counts of instructions is the cost of the work. */
 #define _POSIX_C_SOURCE 199309L
 #include <stdbool.h>
@@ -11,7 +11,7 @@
 #include "engines.h"
 #include "image.h"
 
-enum { MOST_ACTIONS = 20000, CALLS = 2000, ROUNDS = 15, KINDS = 10 };
+enum { MOST_ACTIONS = 20000, CALLS = 2000, ROUNDS = 15, KINDS = LAST_KIND + 1 };
 
 struct plan {
     uint8_t start[TABLE_BYTES];
@@ -75,14 +75,12 @@ static void write_image(const struct engine *engine, const struct plan *plan, st
 static const struct work {
     const char *name;
     void (*once)(const struct engine *engine, const struct plan *plan, struct playing *playing);
-    /* 0: as many as the plan has actions. */
-    size_t calls;
 } works[] = {
-    {"run", play_run, 0},
-    {"step", play_steps, 0},
-    {"fresh", fill_fresh, CALLS},
-    {"read", read_image, CALLS},
-    {"write", write_image, CALLS},
+    {"run", play_run},
+    {"step", play_steps},
+    {"fresh", fill_fresh},
+    {"read", read_image},
+    {"write", write_image},
 };
 
 static const struct work *work_named(const char *name)
@@ -130,8 +128,8 @@ static void report(const struct engine *engine, const struct plan *plan, const s
     }
     uint64_t mixed = digest(UINT64_C(0xcbf29ce484222325), playing->replies, REPLY_BYTES * plan->count);
     mixed = digest(mixed, playing->table, TABLE_BYTES);
-    printf("%s: %zu actions, taken by kind 1 to 8:", engine->name, plan->count);
-    for (size_t kind = ELECT; kind <= COMMIT; kind++) {
+    printf("%s: %zu actions, taken by kind 1 to 9:", engine->name, plan->count);
+    for (size_t kind = ELECT; kind <= LAST_KIND; kind++) {
         printf(" %zu", taken[kind]);
     }
     printf(", digest %016llx\n", (unsigned long long)mixed);
@@ -148,7 +146,7 @@ static double nanoseconds(const struct engine *engine, const struct work *work, 
     }
     clock_gettime(CLOCK_MONOTONIC, &to);
     double passed = (double)(to.tv_sec - from.tv_sec) * 1e9 + (double)(to.tv_nsec - from.tv_nsec);
-    return passed / (double)repetitions / (double)(work->calls == 0 ? plan->count : work->calls);
+    return passed / (double)repetitions;
 }
 
 static int compare_times(const void *one, const void *other)
@@ -171,7 +169,7 @@ static bool take_turns(const struct work *work, const struct plan *plan, unsigne
     }
     for (size_t which = 0; which < 2; which++) {
         qsort(times[which], ROUNDS, sizeof *times[which], compare_times);
-        printf("%s %.1f\n", engines[which]->name, times[which][ROUNDS / 2]);
+        printf("%s %.0f\n", engines[which]->name, times[which][ROUNDS / 2]);
     }
     return memcmp(&playing[0], &playing[1], sizeof *playing) == 0;
 }

@@ -1,6 +1,7 @@
-/* plan SERVERS [input] > FILE: a fresh table of that many servers, then a fixed guided plan for it; as an input of the programs, the
- * table's image and as much of the plan as they take. The same bytes each time, so that counts of instructions taken on different
- * days and engines can be held against each other. */
+/* plan SERVERS FORM > FILE: a table of that many servers, then a plan for it. The form guided is a fresh table and a fixed guided plan; input the
+ * same as an input of the programs, the table's image and as much of the plan as they take; fetches and stretches are a table in which
+ * server 1 has a full log and the others have none, and a plan that copies the log to each of them, entry by entry or in one stretch.
+ * The same bytes each time, so that counts of instructions taken on different days and engines can be held against each other. */
 #include <stdio.h>
 #include <stdlib.h>
 #include <string.h>
@@ -9,7 +10,13 @@
 #include "image.h"
 #include "plain.h"
 
-enum { PLAN_ACTIONS = 20000, PLAN_SEED = 2 };
+enum { PLAN_ACTIONS = 20000, PLAN_SEED = 4 };
+
+struct plan {
+    uint8_t table[TABLE_BYTES];
+    uint8_t actions[ACTION_BYTES * PLAN_ACTIONS];
+    size_t count;
+};
 
 /* A log takes 64 entries only and a new term needs one before it may reconfigure, so terms have to last for a plan
  * to stay lively; with fetches any more frequent, logs would not part and nothing would be rolled back. The seed is
@@ -24,27 +31,68 @@ static const struct temper even_temper = {
         [FETCH] = 40,
         [ROLL_BACK] = 200,
         [COMMIT] = 120,
+        [STRETCH] = 1,
     },
     .missing = 25,
     .spoiled = 5,
 };
 
+static void fill_guided(struct plan *plan, uint32_t n)
+{
+    static uint8_t played[TABLE_BYTES];
+    struct source source = {PLAN_SEED};
+    plain_fresh(plan->table, TABLE_BYTES, n, all_servers(n), RULE_1);
+    memcpy(played, plan->table, TABLE_BYTES);
+    plan->count = PLAN_ACTIONS;
+    draw_guided_plan(&source, &even_temper, played, plan->count, plan->actions);
+}
+
+static void fill_copies(struct plan *plan, uint32_t n, bool in_stretches)
+{
+    plain_fresh(plan->table, TABLE_BYTES, n, all_servers(n), RULE_1);
+    uint8_t *full = plan->table + row_start(1);
+    for (size_t index = 0; index < MOST_ENTRIES; index++) {
+        put_word(full, ENTRIES + index, 1 + (uint32_t)index);
+    }
+    put_word(full, LOG_LENGTH, MOST_ENTRIES);
+    for (uint32_t server = 2; server <= n; server++) {
+        for (size_t left = in_stretches ? 1 : MOST_ENTRIES; left > 0; left--) {
+            uint8_t *action = plan->actions + ACTION_BYTES * plan->count++;
+            put_action(action, in_stretches ? STRETCH : FETCH, server, 1, in_stretches ? MOST_ENTRIES : 0);
+        }
+    }
+}
+
+static bool write_plan(const struct plan *plan)
+{
+    return fwrite(plan->table, TABLE_BYTES, 1, stdout) == 1
+        && fwrite(plan->actions, ACTION_BYTES, plan->count, stdout) == plan->count && fflush(stdout) == 0;
+}
+
+static bool write_input(const struct plan *plan)
+{
+    uint8_t image[MOST_IMAGE_BYTES];
+    size_t image_len = image_of(plan->table, image);
+    size_t count = (MOST_INPUT_BYTES - image_len) / ACTION_BYTES;
+    return fwrite(image, image_len, 1, stdout) == 1 && fwrite(plan->actions, ACTION_BYTES, count, stdout) == count
+        && fflush(stdout) == 0;
+}
+
 int main(int count, char **arguments)
 {
-    static uint8_t table[TABLE_BYTES];
-    static uint8_t actions[ACTION_BYTES * PLAN_ACTIONS];
-    uint32_t n = count > 1 ? (uint32_t)strtoul(arguments[1], NULL, 10) : 0;
-    if (plain_fresh(table, TABLE_BYTES, n, n <= MOST_SERVERS ? all_servers(n) : 0, RULE_1) != 0) {
-        fputs("usage: plan SERVERS [input] > FILE, with 1 to 16 servers\n", stderr);
+    static struct plan plan;
+    uint32_t n = count == 3 ? (uint32_t)strtoul(arguments[1], NULL, 10) : 0;
+    const char *form = n >= 1 && n <= MOST_SERVERS ? arguments[2] : "";
+    bool as_input = strcmp(form, "input") == 0;
+    bool in_stretches = strcmp(form, "stretches") == 0;
+    if (as_input || strcmp(form, "guided") == 0) {
+        fill_guided(&plan, n);
+    } else if (in_stretches || strcmp(form, "fetches") == 0) {
+        fill_copies(&plan, n, in_stretches);
+    } else {
+        fputs("usage: plan SERVERS guided|input|fetches|stretches > FILE, with 1 to 16 servers\n", stderr);
         return EXIT_FAILURE;
     }
-    bool as_input = count > 2 && strcmp(arguments[2], "input") == 0;
-    uint8_t image[MOST_IMAGE_BYTES];
-    size_t image_len = image_of(table, image);
-    size_t taken = as_input ? (MOST_INPUT_BYTES - image_len) / ACTION_BYTES : PLAN_ACTIONS;
-    struct source source = {PLAN_SEED};
-    bool written = fwrite(as_input ? image : table, as_input ? image_len : TABLE_BYTES, 1, stdout) == 1;
-    draw_guided_plan(&source, &even_temper, table, PLAN_ACTIONS, actions);
-    written = written && fwrite(actions, ACTION_BYTES, taken, stdout) == taken && fflush(stdout) == 0;
+    bool written = as_input ? write_input(&plan) : write_plan(&plan);
     return written ? EXIT_SUCCESS : EXIT_FAILURE;
 }

@@ -19,11 +19,12 @@ static void each_kind_is_taken(const struct engine *engine)
     GIVE_LOG(&after[WRITE - 1], 1, 1, 2, 2);
     GIVE_LOG(&after[FETCH - 1], 2, 1, 2);
     GIVE_LOG(&after[ROLL_BACK - 1], 4, 1);
-    for (uint32_t kind = ELECT; kind <= COMMIT; kind++) {
+    GIVE_LOG(&after[STRETCH - 1], 2, 1, 2);
+    for (uint32_t kind = ELECT; kind <= LAST_KIND; kind++) {
         char name[40];
         snprintf(name, sizeof name, "ready action of kind %u", kind);
         struct scene scene = ready_scene(engine);
-        taken(&scene, ready_action(kind), &after[kind - 1], name);
+        replied(&scene, ready_action(kind), copied_reply(kind == STRETCH ? 1 : 0), &after[kind - 1], name);
     }
 }
 
@@ -31,8 +32,8 @@ static void unknown_kinds(const struct engine *engine)
 {
     struct scene scene = ready_scene(engine);
     refused(&scene, act(0, 0, 0, 0), 2, "kind 0 with all fields 0");
-    for (uint32_t kind = COMMIT + 1; kind <= UINT8_MAX; kind++) {
-        refused(&scene, act(kind, 200, 200, UINT16_MAX), 2, "kind above 8 with all fields wrong");
+    for (uint32_t kind = LAST_KIND + 1; kind <= UINT8_MAX; kind++) {
+        refused(&scene, act(kind, 200, 200, UINT16_MAX), 2, "kind above 9 with all fields wrong");
     }
 }
 
@@ -55,7 +56,7 @@ static bool is_used(uint32_t kind, size_t index)
 static void stray_bytes(const struct engine *engine)
 {
     struct scene scene = ready_scene(engine);
-    for (uint32_t kind = ELECT; kind <= COMMIT; kind++) {
+    for (uint32_t kind = ELECT; kind <= LAST_KIND; kind++) {
         for (size_t index = 1; index < ACTION_BYTES; index++) {
             for (uint32_t bit = 1; !is_used(kind, index) && bit <= 128; bit *= 2) {
                 char name[60];
@@ -74,7 +75,7 @@ static void servers_out_of_range(const struct engine *engine)
 {
     const uint8_t outside[] = {0, 5, 16, 17, 128, 255};
     struct scene scene = ready_scene(engine);
-    for (uint32_t kind = ELECT; kind <= COMMIT; kind++) {
+    for (uint32_t kind = ELECT; kind <= LAST_KIND; kind++) {
         for (size_t index = 1; index <= 2; index++) {
             for (size_t which = 0; is_used(kind, index) && which < sizeof outside; which++) {
                 char name[60];

@@ -7,7 +7,7 @@ static const uint32_t above_n = 9;
 /* The rungs shared by all kinds; leaves the action with nothing amiss but server numbers and the set. */
 static void climb_to_fields(struct scene *scene, struct bytes8 *action, uint32_t kind, const char *name)
 {
-    action->byte[0] = 9;
+    action->byte[0] = LAST_KIND + 1;
     action->byte[7] = 1;
     put_word(scene->table, SPARE, 1);
     refused(scene, *action, 1, name);
@@ -217,6 +217,29 @@ static void climb_commit(const struct engine *engine)
     taken(&scene, action, &after, "commit once more");
 }
 
+static void climb_stretch(const struct engine *engine)
+{
+    struct scene scene = fresh_scene(engine, 4, 7);
+    give_role(&scene, 1, PRIMARY, 1);
+    GIVE_LOG(&scene, 1, 1, 2);
+    GIVE_LOG(&scene, 2, 2, 1);
+    struct bytes8 action = act(0, 1, above_n, 0);
+    climb_to_fields(&scene, &action, STRETCH, "a stretch's ladder");
+    action.byte[2] = 2;
+    refused(&scene, action, 5, "stretch of no entry");
+    refused(&scene, act(STRETCH, 1, 2, 65), 5, "stretch of 65 entries");
+    action = act(STRETCH, 1, 2, 3);
+    refused(&scene, action, 6, "stretch to a primary");
+    give_role(&scene, 1, SECONDARY, 1);
+    refused(&scene, action, 20, "stretch from a log as long");
+    GIVE_LOG(&scene, 2, 1, 1, 3, 4, 5);
+    refused(&scene, action, 20, "stretch over a different entry");
+    GIVE_LOG(&scene, 2, 1, 2, 3, 4, 5, 6);
+    struct scene after = scene;
+    GIVE_LOG(&after, 1, 1, 2, 3, 4, 5);
+    replied(&scene, action, copied_reply(3), &after, "stretch of 3 entries, where 4 are left");
+}
+
 void check_ladders(const struct engine *engine)
 {
     climb_elect(engine);
@@ -227,4 +250,5 @@ void check_ladders(const struct engine *engine)
     climb_fetch(engine);
     climb_roll_back(engine);
     climb_commit(engine);
+    climb_stretch(engine);
 }

@@ -15,6 +15,7 @@ struct tally {
     uint64_t taken_of_kind[RULE_2 + 1][NUMBERS];
     uint64_t pairs;
     uint64_t servers;
+    uint64_t copied;
 };
 
 static void fill_plan(struct source *source, struct trial *trial, size_t count)
@@ -99,7 +100,8 @@ static void add_to_tally(struct tally *tally, const struct trial *trial, const s
         tally->given[rule][number_of(reply)]++;
         tally->pairs += set_in(reply, OLD_SHIFT) != 0;
         tally->servers += server_in(reply) != 0;
-        if (reply == TAKEN) {
+        tally->copied += copied_in(reply);
+        if (number_of(reply) == TAKEN) {
             tally->taken_of_kind[rule][trial->actions[ACTION_BYTES * piece]]++;
         }
     }
@@ -118,11 +120,11 @@ static bool report_counts(const char *what, const uint64_t (*counts)[NUMBERS], u
 
 static bool report_tally(const struct tally *tally)
 {
-    printf("%llu actions in %llu trials, %llu pairs of majorities and %llu servers in the way shown\n",
+    printf("%llu actions in %llu trials; shown: %llu pairs of majorities, %llu servers in the way, %llu entries copied by stretches\n",
            (unsigned long long)tally->actions, (unsigned long long)tally->trials, (unsigned long long)tally->pairs,
-           (unsigned long long)tally->servers);
+           (unsigned long long)tally->servers, (unsigned long long)tally->copied);
     bool all_given = report_counts("how often each number was given", tally->given, TAKEN, NUMBERS - 1);
-    bool all_taken = report_counts("how often each kind was taken", tally->taken_of_kind, ELECT, COMMIT);
+    bool all_taken = report_counts("how often each kind was taken", tally->taken_of_kind, ELECT, LAST_KIND);
     if (!all_given || !all_taken) {
         puts("FAILED: a number was never given, or a kind never taken");
     }

@@ -21,7 +21,7 @@ bool chance(struct source *source, uint32_t percent);
 /* How often a plan turns to each kind, one weight of at least 1 a kind; how many percent of its actions are well
  * formed but refused by the table; and how many have a field altered. */
 struct temper {
-    uint32_t weight[COMMIT + 1];
+    uint32_t weight[LAST_KIND + 1];
     uint32_t missing;
     uint32_t spoiled;
 };

@@ -30,13 +30,14 @@ bool chance(struct source *source, uint32_t percent)
 /* Plans of one temper only would all end in the same few situations. */
 struct temper draw_temper(struct source *source)
 {
-    const struct { uint32_t least, most; } weights[COMMIT + 1] = {
+    const struct { uint32_t least, most; } weights[LAST_KIND + 1] = {
         [ELECT] = {1, 10}, [RECONFIGURE] = {20, 100}, [SEND] = {20, 80},      [SPREAD] = {5, 40},
         [WRITE] = {5, 40}, [FETCH] = {40, 120},       [ROLL_BACK] = {10, 40}, [COMMIT] = {10, 50},
+        [STRETCH] = {5, 30},
     };
     struct temper temper = {.missing = between(source, 2, 25)};
     temper.spoiled = between(source, 2, 20);
-    for (uint32_t kind = ELECT; kind <= COMMIT; kind++) {
+    for (uint32_t kind = ELECT; kind <= LAST_KIND; kind++) {
         temper.weight[kind] = between(source, weights[kind].least, weights[kind].most);
     }
     return temper;
@@ -46,7 +47,7 @@ struct temper draw_temper(struct source *source)
  * then name another plan. */
 void draw_blind_action(struct source *source, uint32_t n, uint8_t *action)
 {
-    uint32_t kind = below(source, COMMIT + 2);
+    uint32_t kind = below(source, LAST_KIND + 2);
     uint32_t i = between(source, 1, n);
     uint32_t j = below(source, n + 2);
     uint32_t set = (uint32_t)draw(source);
@@ -54,7 +55,7 @@ void draw_blind_action(struct source *source, uint32_t n, uint8_t *action)
         i = below(source, 256);
     }
     if (chance(source, 90)) {
-        set &= all_servers(n);
+        set = kind == STRETCH ? set % (MOST_ENTRIES + 2) : set & all_servers(n);
     }
     bool has_j = names_j(kind) != chance(source, 5);
     bool has_set = names_set(kind) != chance(source, 5);
@@ -64,7 +65,7 @@ void draw_blind_action(struct source *source, uint32_t n, uint8_t *action)
 static uint32_t draw_kind(struct source *source, const struct temper *temper)
 {
     uint32_t total = 0;
-    for (uint32_t kind = ELECT; kind <= COMMIT; kind++) {
+    for (uint32_t kind = ELECT; kind <= LAST_KIND; kind++) {
         total += temper->weight[kind];
     }
     uint32_t left = below(source, total);
@@ -134,6 +135,10 @@ static bool shape_action(const uint8_t *table, uint32_t i, uint32_t other, struc
     case COMMIT:
         action->set = other == 1 ? supporters(table, i) : set;
         return other <= 2;
+    case STRETCH:
+        action->set = MOST_ENTRIES;
+        action->j = other;
+        return other <= n;
     default:
         action->j = other;
         return other <= n;
@@ -187,7 +192,7 @@ static void spoil_action(struct source *source, uint32_t n, uint8_t *action)
     uint32_t bit = below(source, 8);
     switch (below(source, 12)) {
     case 0:
-        action[0] = (uint8_t)below(source, COMMIT + 2);
+        action[0] = (uint8_t)below(source, LAST_KIND + 2);
         break;
     case 1:
         action[below(source, ACTION_BYTES)] ^= (uint8_t)(1U << bit);
@@ -214,11 +219,11 @@ static bool find_action(struct source *source, const struct temper *temper, cons
 {
     bool to_be_taken = !chance(source, temper->missing);
     struct temper untried = *temper;
-    for (uint32_t kind = ELECT; !to_be_taken && kind <= COMMIT; kind++) {
+    for (uint32_t kind = ELECT; !to_be_taken && kind <= LAST_KIND; kind++) {
         untried.weight[kind] = 1;
     }
     bool found = false;
-    for (uint32_t tries = ELECT; !found && tries <= COMMIT; tries++) {
+    for (uint32_t tries = ELECT; !found && tries <= LAST_KIND; tries++) {
         uint32_t kind = draw_kind(source, &untried);
         untried.weight[kind] = 0;
         found = choose_action(source, table, kind, to_be_taken, action);
@@ -235,6 +240,10 @@ void draw_guided_action(struct source *source, const struct temper *temper, cons
         return;
     }
     thin_voters(source, table, &action);
+    /* Any count is taken as any other is. */
+    if (action.kind == STRETCH && chance(source, 70)) {
+        action.set = between(source, 1, chance(source, 70) ? 4 : MOST_ENTRIES);
+    }
     put_action(bytes, action.kind, action.i, action.j, action.set);
     if (chance(source, temper->spoiled)) {
         spoil_action(source, n, bytes);

@@ -12,7 +12,7 @@
 #include "plain_rules.h"
 
 /* A feature below CUT is a number, of a reply or of a bad site; none is both. */
-enum { CUT = 35, TOO_LONG, FULL, NO_ACTION_AT_ALL, FEATURES };
+enum { CUT = 35, TOO_LONG, FULL, NO_ACTION_AT_ALL, COPIED, FEATURES };
 
 /* Past twice the longest input, so that a length kept in 16 or 17 bits shows. The rarest feature takes some hundred
  * tries. */
@@ -38,7 +38,7 @@ static const char *name_of(uint32_t feature)
     const char *const names[FEATURES] = {
         [TAKEN] = "taken",       [CUT] = "cut",
         [TOO_LONG] = "too long", [FULL] = "exactly 65,536 bytes",
-        [NO_ACTION_AT_ALL] = "no action",
+        [NO_ACTION_AT_ALL] = "no action", [COPIED] = "taken with a count",
     };
     return names[feature] != NULL ? names[feature] : names_bad_site(feature) ? "bad site" : "refused";
 }
@@ -62,6 +62,7 @@ static void count_features(const struct input *input, uint64_t *times)
     plain_run(table, TABLE_BYTES, input->bytes + end, actions_len, replies, REPLY_BYTES * count);
     for (size_t piece = 0; piece < count; piece++) {
         times[number_of(reply_at(replies, piece))]++;
+        times[COPIED] += copied_in(reply_at(replies, piece)) != 0;
     }
     times[CUT] += actions_len % ACTION_BYTES != 0;
     times[FULL] += input->length == MOST_INPUT_BYTES;

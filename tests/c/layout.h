@@ -29,17 +29,18 @@ enum { ROLE, TERM, SET, VERSION, CONFIG_TERM, LOG_LENGTH, ENTRIES };
 
 enum { SECONDARY, PRIMARY };
 
-enum { ELECT = 1, RECONFIGURE, SEND, SPREAD, WRITE, FETCH, ROLL_BACK, COMMIT };
+enum { ELECT = 1, RECONFIGURE, SEND, SPREAD, WRITE, FETCH, ROLL_BACK, COMMIT, STRETCH, LAST_KIND = STRETCH };
 
 /* All kinds name i. */
 static inline bool names_j(uint32_t kind)
 {
-    return kind == SEND || kind == SPREAD || kind == FETCH || kind == ROLL_BACK;
+    return kind == SEND || kind == SPREAD || kind == FETCH || kind == ROLL_BACK || kind == STRETCH;
 }
 
+/* A stretch has its count where others have a set. */
 static inline bool names_set(uint32_t kind)
 {
-    return kind == ELECT || kind == RECONFIGURE || kind == COMMIT;
+    return kind == ELECT || kind == RECONFIGURE || kind == COMMIT || kind == STRETCH;
 }
 
 static inline size_t row_start(uint32_t server)
@@ -79,6 +80,14 @@ static inline uint32_t server_in(uint64_t reply)
 static inline uint32_t at_server(uint32_t number, uint32_t server)
 {
     return number | server << SERVER_SHIFT;
+}
+
+/* Where it has how many entries a stretch has copied. */
+enum { COPIED_SHIFT = 16 };
+
+static inline uint32_t copied_in(uint64_t reply)
+{
+    return (uint32_t)(reply >> COPIED_SHIFT & 0xff);
 }
 
 /* Where the two majorities stand in it that refusal 13 shows under rule 2. */

@@ -80,6 +80,18 @@ void plain_do(uint8_t *table, const struct action *action)
     }
 }
 
+/* One fetch after another, each judged by itself; answers how many were taken. */
+static uint64_t do_stretch(uint8_t *table, const struct action *action)
+{
+    const struct action fetch = {.kind = FETCH, .i = action->i, .j = action->j};
+    uint32_t copied = 0;
+    while (copied < action->set && plain_judge(table, &fetch) == TAKEN) {
+        plain_do(table, &fetch);
+        copied++;
+    }
+    return copied;
+}
+
 uint64_t plain_play(uint8_t *table, const uint8_t *bytes)
 {
     struct action action;
@@ -87,7 +99,9 @@ uint64_t plain_play(uint8_t *table, const uint8_t *bytes)
     if (reply == TAKEN) {
         reply = plain_judge(table, &action);
     }
-    if (reply == TAKEN) {
+    if (reply == TAKEN && action.kind == STRETCH) {
+        reply |= do_stretch(table, &action) << COPIED_SHIFT;
+    } else if (reply == TAKEN) {
         plain_do(table, &action);
     }
     if (reply == NO_SUCH_CHANGE && word(table, RULE) == RULE_2) {

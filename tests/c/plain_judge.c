@@ -7,7 +7,7 @@
 uint32_t plain_parse(const uint8_t *bytes, uint32_t n, struct action *action)
 {
     *action = (struct action){bytes[0], bytes[1], bytes[2], (uint32_t)bytes[4] | (uint32_t)bytes[5] << 8};
-    if (action->kind < ELECT || action->kind > COMMIT) {
+    if (action->kind < ELECT || action->kind > LAST_KIND) {
         return NO_ACTION;
     }
     bool uses_j = names_j(action->kind);
@@ -18,7 +18,8 @@ uint32_t plain_parse(const uint8_t *bytes, uint32_t n, struct action *action)
     if (action->i < 1 || action->i > n || (uses_j && (action->j < 1 || action->j > n))) {
         return NO_SUCH_SERVER;
     }
-    if (uses_set && (action->set == 0 || (action->set & ~all_servers(n)) != 0)) {
+    bool fits = action->kind == STRETCH ? action->set <= MOST_ENTRIES : (action->set & ~all_servers(n)) == 0;
+    if (uses_set && (action->set == 0 || !fits)) {
         return NO_SUCH_SET;
     }
     return TAKEN;
@@ -285,6 +286,7 @@ uint32_t plain_judge(const uint8_t *table, const struct action *action)
     case WRITE:
         return judge_write(row);
     case FETCH:
+    case STRETCH:
         return judge_fetch(row, other);
     case ROLL_BACK:
         return judge_roll_back(row, other);

@@ -11,6 +11,10 @@
 
 static void print_reply(uint64_t reply)
 {
+    if (copied_in(reply) != 0) {
+        printf("taken %u\n", copied_in(reply));
+        return;
+    }
     if (reply == TAKEN) {
         puts("taken");
         return;

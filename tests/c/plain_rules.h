@@ -44,6 +44,7 @@ struct action {
     uint32_t kind;
     uint32_t i;
     uint32_t j;
+    /* A stretch's count. */
     uint32_t set;
 };
 
@@ -60,6 +61,7 @@ uint32_t plain_judge(const uint8_t *table, const struct action *action);
  * one without a common server. */
 uint64_t plain_pair(const uint8_t *table, const struct action *action);
 
+/* Does a taken action of any kind but a stretch, which is as many fetches. */
 void plain_do(uint8_t *table, const struct action *action);
 
 /* Parses, judges and, if taken, does; answers all of the reply. */

@@ -102,8 +102,14 @@ struct bytes8 ready_action(uint32_t kind)
     const struct bytes8 ready[READY_KINDS] = {
         act(ELECT, 1, 0, 7), act(RECONFIGURE, 1, 0, 15), act(SEND, 1, 2, 0),      act(SPREAD, 1, 4, 0),
         act(WRITE, 1, 0, 0), act(FETCH, 2, 1, 0),        act(ROLL_BACK, 4, 1, 0), act(COMMIT, 1, 0, 5),
+        act(STRETCH, 2, 1, 64),
     };
     return ready[kind - 1];
+}
+
+uint64_t copied_reply(uint32_t entries)
+{
+    return (uint64_t)entries << COPIED_SHIFT;
 }
 
 void replied(struct scene *scene, struct bytes8 action, uint64_t reply, const struct scene *after, const char *name)

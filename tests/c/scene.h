@@ -18,7 +18,7 @@ struct bytes8 {
     uint8_t byte[ACTION_BYTES];
 };
 
-enum { READY_KINDS = 8 };
+enum { READY_KINDS = LAST_KIND };
 
 /* Counts the check, and prints its name if it does not hold. */
 __attribute__((format(printf, 2, 3))) void check(bool holds, const char *name, ...);
@@ -44,6 +44,9 @@ void give_mark(struct scene *scene, uint32_t position, uint32_t term);
 struct scene ready_scene(const struct engine *engine);
 struct bytes8 ready_action(uint32_t kind);
 
+/* The reply to a stretch that is taken. */
+uint64_t copied_reply(uint32_t entries);
+
 /* Plays the action by step, and by run on a second copy; both have to give the reply and the table named. A reply that
  * shows nothing is its number. */
 void replied(struct scene *scene, struct bytes8 action, uint64_t reply, const struct scene *after, const char *name);
@@ -56,6 +59,7 @@ void check_fields(const struct engine *engine);
 void check_errors(const struct engine *engine);
 void check_rules(const struct engine *engine);
 void check_servers(const struct engine *engine);
+void check_stretches(const struct engine *engine);
 void check_broken(const struct engine *engine);
 void check_lengths(const struct engine *engine);
 void check_images(const struct engine *engine);

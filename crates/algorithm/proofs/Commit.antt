@@ -13,7 +13,7 @@ use Rattle.words.specs.Refusal.{Refusal, refuse, first}
 use Rattle.words.proofs.Tests.{Passes, first-of, second-of, is-equal}
 use Rattle.words.proofs.RefusalLaws.{lacks, first-later}
 use Rattle.algorithm.specs.Table.{Table, count, server, mark}
-use Rattle.algorithm.specs.Actions.{markedOtherwise, entryRefusals, Action, unknown, elect, reconfigure, send, spread, write, fetch, rollBack, commit, actionOf}
+use Rattle.algorithm.specs.Actions.{markedOtherwise, entryRefusals, Action, unknown, elect, reconfigure, send, spread, write, fetch, rollBack, commit, stretch, actionOf}
 use Rattle.algorithm.specs.Run.{commonRefusals, ownRefusals, refusals, step}
 use Rattle.algorithm.proofs.Refused.{Fits, common-fit}
 use Rattle.algorithm.proofs.Full.{CanCommit}
@@ -57,6 +57,7 @@ module _ (t : Table) (safe : Safe (view t)) where
   own-24 (write i) fit z = unnumbered (ownRefusals t (write i)) tt z
   own-24 (fetch i j) fit z = unnumbered (ownRefusals t (fetch i j)) tt z
   own-24 (rollBack i j) fit z = unnumbered (ownRefusals t (rollBack i j)) tt z
+  own-24 (stretch i j c) fit z = unnumbered (ownRefusals t (stretch i j c)) tt z
   own-24 (commit i q) fit z =
       let (none, last) = first-later 24 (entryRefusals t i q) (refuse 24 (markedOtherwise t i) ∷ []) tt z in
       not-last t safe i q (can-commit t i q (fit .1) none) last

@@ -14,8 +14,8 @@ use Rattle.members.specs.Members.{within, somePass, lowestIn}
 use Rattle.members.proofs.Said.{Lowest}
 use Rattle.members.proofs.Lowest.{lowest-in, lowest-map}
 use Rattle.algorithm.specs.Table.{Table, count, server, held}
-use Rattle.algorithm.specs.Actions.{Action, unknown, elect, reconfigure, send, spread, write, fetch, rollBack, commit, actionOf, oneServer, largerTerm, newerConfig, logAhead, electRefusals, sameTerm, apartShown, majorityRefusals, markRefusals, reconfigureRefusals, sendRefusals, spreadRefusals, writeRefusals, fetchRefusals, rollBackRefusals, opposesAt, commitRefusals}
-use Rattle.algorithm.specs.Run.{commonRefusals, ownRefusals, answered, step}
+use Rattle.algorithm.specs.Actions.{Action, unknown, elect, reconfigure, send, spread, write, fetch, rollBack, commit, stretch, actionOf, oneServer, largerTerm, newerConfig, logAhead, electRefusals, sameTerm, apartShown, majorityRefusals, markRefusals, reconfigureRefusals, sendRefusals, spreadRefusals, writeRefusals, fetchRefusals, rollBackRefusals, opposesAt, commitRefusals}
+use Rattle.algorithm.specs.Run.{takenShown, commonRefusals, ownRefusals, answered, step}
 use Rattle.algorithm.proofs.Refused.{Fits, step-each}
 use Rattle.algorithm.proofs.Seen.{within-width}
 
@@ -93,9 +93,23 @@ module _ (t : Table) where
   own-shown (fetch i j) fit = quiet-shown (fetch i j) (fetchRefusals t i j) tt
   own-shown (rollBack i j) fit = quiet-shown (rollBack i j) (rollBackRefusals t i j) tt
   own-shown (commit i q) (_, w) = commit-shown i q w
+  own-shown (stretch i j c) fit = quiet-shown (stretch i j c) (fetchRefusals t i j) tt
+
+-- a taken action shows no server
+taken-server : (t : Table) (a : Action) → takenShown t a .server ≡ 0
+taken-server t unknown = refl
+taken-server t (elect i q) = refl
+taken-server t (reconfigure i m) = refl
+taken-server t (send i j) = refl
+taken-server t (spread i j) = refl
+taken-server t (write i) = refl
+taken-server t (fetch i j) = refl
+taken-server t (rollBack i j) = refl
+taken-server t (commit i q) = refl
+taken-server t (stretch i j c) = refl
 
 pub server-shown : (t : Table) (a : List ℕ) → ServerShown t (actionOf a) (answered (step t a))
 unfolding every
 server-shown t a =
-    step-each (ServerShown t (actionOf a)) t a (quietly t (actionOf a) 0 tt) (quiet-shown t (actionOf a) (commonRefusals t a) tt)
+    step-each (ServerShown t (actionOf a)) t a (λ _. none (actionOf a) 0 _ (record { no = tt }) (taken-server t (actionOf a))) (quiet-shown t (actionOf a) (commonRefusals t a) tt)
     (λ _ fit. own-shown t (actionOf a) fit)

@@ -11,11 +11,13 @@ use Rattle.members.specs.Members.{within}
 use Rattle.words.proofs.Tests.{Passes, Fails, together, refuted, both-refuted, equal, unequal, less, above, is-at-most}
 use Rattle.words.specs.Lists.{every}
 use Rattle.algorithm.specs.Table.{Entry, entry, Log, Table, count, server, primary, entryAt, withServer, changed, withConfig, withLog, withEntry, ceiling, positions, soundEntry, soundServer, broken, freshServer, fresh, mostServers}
-use Rattle.algorithm.specs.Actions.{Action, elect, reconfigure, commit, send, spread, fetch, rollBack, write, unknown, actionOf, steppedDown, winner, nextConfig, joins}
-use Rattle.algorithm.specs.Run.{after, step}
-use Rattle.words.proofs.Lists.{every-nth, every-plus, every-take, every-replicate}
+use Rattle.algorithm.specs.Actions.{Action, elect, reconfigure, commit, send, spread, fetch, rollBack, write, stretch, unknown, actionOf, fetchRefusals, fetchAfter, steppedDown, winner, nextConfig, joins}
+use Rattle.algorithm.specs.Run.{known, after, step}
+use Rattle.words.proofs.RefusalLaws.{NoneHold}
+use Rattle.words.proofs.Lists.{length-replace, every-nth, every-plus, every-take, every-replicate}
 use Rattle.algorithm.proofs.Refused.{Taken, outcome}
 use Rattle.algorithm.proofs.Seen.{count-voted}
+use Rattle.algorithm.proofs.Fetches.{fetches-keep}
 use Rattle.algorithm.proofs.Sound.{SoundServer, SoundTable, sound-server, table-sound, sound-table, here-sound, with-sound, mark-sound, stepped-sound, voted-sound}
 
 module _ {t : Table} (h : SoundTable t) (i : ℕ) (a : SoundServer (count t) (server t i)) where
@@ -35,7 +37,20 @@ module _ {t : Table} (h : SoundTable t) (i : ℕ) (a : SoundServer (count t) (se
       let some : 1 ≤ server t i .term = ⊎-elim (λ r. r .1) (λ r. absurd (omega arith)) (a .role) in
       together (is-at-most some) (is-at-most (a .term))
 
-after-sound : (t : Table) (a : Action) → Taken t a → SoundTable (after t a)
+-- a taken fetch appends an entry of the other log
+pub fetch-sound : (t : Table) (i j : ℕ) → SoundTable t → Passes (known (count t) i) × Passes (known (count t) j) → NoneHold (fetchRefusals t i j)
+    → SoundTable (fetchAfter t i j)
+fetch-sound t i j h (i-fits, j-fits) none =
+    let b = here-sound h j j-fits in
+    let l : Log = server t i .log in
+    let m : Log = server t j .log in
+    let (first, _) = both-refuted {a = ltb (length l) (length m)} {b = joins l m} (none 20) in
+    let longer : length l < length m = less first in
+    entry-sound h i (here-sound h i i-fits) (entryAt m (length l + 1)) (omega (arith, b .short))
+    (every-nth soundEntry m (length l + 1) (entry 0) (b .entries) (omega arith) (omega arith))
+
+-- a taken action leaves a table that keeps the rules
+pub after-sound : (t : Table) (a : Action) → Taken t a → SoundTable (after t a)
 unfolding after
 after-sound t unknown k = table-sound (k .sound)
 after-sound t (elect i q) k =
@@ -79,15 +94,7 @@ after-sound t (write i) k =
     let h = table-sound (k .sound) in
     let a = here-sound h i (k .fit) in
     entry-sound h i a (entry (server t i .term)) (above (k .own 19)) (primary-term h i a (k .own 6))
-after-sound t (fetch i j) k =
-    let h = table-sound (k .sound) in
-    let b = here-sound h j (k .fit .1) in
-    let l : Log = server t i .log in
-    let m : Log = server t j .log in
-    let (first, _) = both-refuted {a = ltb (length l) (length m)} {b = joins l m} (k .own 20) in
-    let longer : length l < length m = less first in
-    entry-sound h i (here-sound h i (k .fit .0)) (entryAt m (length l + 1)) (omega (arith, b .short))
-    (every-nth soundEntry m (length l + 1) (entry 0) (b .entries) (omega arith) (omega arith))
+after-sound t (fetch i j) k = fetch-sound t i j (table-sound (k .sound)) (k .fit) (k .own)
 after-sound t (rollBack i j) k =
     let h = table-sound (k .sound) in
     let a = here-sound h i (k .fit .0) in
@@ -96,6 +103,11 @@ after-sound t (rollBack i j) k =
 after-sound t (commit i q) k =
     let h = table-sound (k .sound) in
     mark-sound h (length (server t i .log)) (server t i .term) (here-sound h i (k .fit .0) .term)
+after-sound t (stretch i j c) k =
+    let Fitting : Table → Type 0 = λ s. SoundTable s × (Passes (known (count s) i) × Passes (known (count s) j)) in
+    let keeps : (s : Table) → NoneHold (fetchRefusals s i j) → Fitting s → Fitting (fetchAfter s i j) =
+    λ s none (h, fit). (fetch-sound s i j h fit none, rw (length-replace (s .servers) i _) fit) in
+    fetches-keep i j Fitting keeps c t (table-sound (k .sound), k .fit .0) .0
 
 -- a step of a table that is not broken gives a table that is not broken
 pub step-sound : (t : Table) (a : List ℕ) → Fails (broken t) → Fails (broken (step t a .table))

@@ -13,9 +13,11 @@ pub mod Elections
 pub mod Full
 pub mod Seen
 pub mod Sound
+pub mod Fetches
 pub mod Kept
 pub mod Taken
 pub mod Runs
+pub mod Stretches
 pub mod Safe
 pub mod Commit
 pub mod Demands

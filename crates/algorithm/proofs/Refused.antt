@@ -1,22 +1,22 @@
 -- What a step does where no refusal holds, and where one does. Assumes nothing.
 use Prim.Native.Nat.{ℕ, zero, suc, _<_}
-use mathlib.Core.Bool.{Bool, true, false, not, _||_, _&&_}
-use mathlib.Core.List.{List, [], _++_}
+use mathlib.Core.Bool.{Bool, true, false, cond, not, _||_, _&&_}
+use mathlib.Core.List.{List, [], _++_, append-nil}
 use mathlib.Core.Logic.{_⊎_, inl, inr, ⊎-elim}
-use mathlib.Core.Path.{_≡_, refl}
+use mathlib.Core.Path.{_≡_, refl, sym, subst}
 use native.Mathlib.Decide.{ℕ-discrete}
 use native.Mathlib.Omega.{arith}
 use lib.Dec.{T, eqb}
 use lib.ListN.{getD}
-use borrow.Author.Tests.{eqb-true}
+use borrow.Author.Tests.{eqb-true, eqb-false}
 use Rattle.members.specs.Members.{within}
-use Rattle.words.proofs.RefusalLaws.{NoneHold, lacks, first-later, none-hold, ascending, EachHeld, given-each, given-none, given-held}
+use Rattle.words.proofs.RefusalLaws.{NoneHold, lacks, first-later, none-hold, ascending, EachHeld, each-map, given-each, given-none, given-held}
 use Rattle.words.proofs.Tests.{Passes, Fails, neither, refuted, both-refuted}
-use Rattle.algorithm.specs.Table.{Table, count, broken}
-use Rattle.words.specs.Lists.{every}
-use Rattle.words.specs.Refusal.{nothing, first, Answer, answer, given}
-use Rattle.algorithm.specs.Actions.{Action, unknown, elect, reconfigure, send, spread, write, fetch, rollBack, commit, kinds, kindOf, iOf, jOf, setOf, usesSet, usesJ, actionOf}
-use Rattle.algorithm.specs.Run.{known, commonRefusals, ownRefusals, refusals, after, answered, step, wins, wonBy}
+use Rattle.algorithm.specs.Table.{Table, count, broken, positions}
+use Rattle.words.specs.Lists.{every, between}
+use Rattle.words.specs.Refusal.{nothing, Refusal, first, Answer, answer, given, firstShown}
+use Rattle.algorithm.specs.Actions.{Action, unknown, elect, reconfigure, send, spread, write, fetch, rollBack, commit, kinds, kindOf, iOf, jOf, setOf, usesSet, usesJ, actionOf, stretch, setFits}
+use Rattle.algorithm.specs.Run.{known, commonRefusals, ownRefusals, refusals, after, takenShown, answered, step, wins, wonBy}
 
 -- ---- the numbers of an action's refusals
 
@@ -32,6 +32,12 @@ own-numbers t (write i) = (tt, tt)
 own-numbers t (fetch i j) = (tt, tt)
 own-numbers t (rollBack i j) = (tt, tt)
 own-numbers t (commit i q) = (tt, tt)
+own-numbers t (stretch i j c) = (tt, tt)
+
+-- where none of them holds, nothing is shown
+pub none-given : (t : Table) (a : Action) → first (ownRefusals t a) ≡ 0 → given (ownRefusals t a) ≡ answer 0 nothing
+unfolding first firstShown
+none-given t a e = rw append-nil at (given-none (ownRefusals t a) [] (own-numbers t a .0) e)
 
 -- the refusals of an action stand lowest first, so that the first that holds is the lowest
 pub lowest-first : (t : Table) (a : List ℕ) → T (ascending 0 (refusals t a))
@@ -40,7 +46,7 @@ lowest-first t a = own-numbers t (actionOf a) .1
 
 -- ---- an action whose servers and set are those of a table of n servers
 
--- its servers are known and its set is within n, as far as its kind uses them
+-- its servers are known and its set is within n, or its count one that a log can have, as far as its kind uses them
 abbrev pub Fits : ℕ → Action → Type 0
 Fits n unknown = Unit {0}
 Fits n (elect i q) = Passes (known n i) × Passes (within q n)
@@ -51,8 +57,9 @@ Fits n (write i) = Passes (known n i)
 Fits n (fetch i j) = Passes (known n i) × Passes (known n j)
 Fits n (rollBack i j) = Passes (known n i) × Passes (known n j)
 Fits n (commit i q) = Passes (known n i) × Passes (within q n)
+Fits n (stretch i j c) = (Passes (known n i) × Passes (known n j)) × Passes (between 1 positions c)
 
-fits : (n k i j m : ℕ) → Fails (not (known n i) || usesJ k && not (known n j)) → Fails (usesSet k && not (within m n))
+fits : (n k i j m : ℕ) → Fails (not (known n i) || usesJ k && not (known n j)) → Fails (usesSet k && not (setFits n k m))
     → Fits n (getD (kinds i j m) k unknown)
 fits n zero i j m a b = tt
 fits n (suc zero) i j m a b = (refuted (neither a .0), refuted b)
@@ -63,7 +70,8 @@ fits n (suc (suc (suc (suc (suc zero))))) i j m a b = refuted (neither a .0)
 fits n (suc (suc (suc (suc (suc (suc zero)))))) i j m a b = both-refuted a
 fits n (suc (suc (suc (suc (suc (suc (suc zero))))))) i j m a b = both-refuted a
 fits n (suc (suc (suc (suc (suc (suc (suc (suc zero)))))))) i j m a b = (refuted (neither a .0), refuted b)
-fits n (suc (suc (suc (suc (suc (suc (suc (suc (suc k))))))))) i j m a b = tt
+fits n (suc (suc (suc (suc (suc (suc (suc (suc (suc zero))))))))) i j m a b = (both-refuted a, refuted b)
+fits n (suc (suc (suc (suc (suc (suc (suc (suc (suc (suc k)))))))))) i j m a b = tt
 
 -- ---- a step
 
@@ -112,15 +120,26 @@ refused-stays t a h = ⊎-elim (λ d. absurd (omega (arith, d .number))) (λ r. 
 
 -- ---- what is said of each refusal is said of the answer
 
--- P is said of taken, of 1 to 5 where they hold, and, for an action that fits a table that keeps the rules, of its kind's own
-pub step-each : (P : Answer → Type 0) (t : Table) (a : List ℕ) → P (answer 0 nothing) → EachHeld P (commonRefusals t a)
-    → (Fails (broken t) → Fits (count t) (actionOf a) → EachHeld P (ownRefusals t (actionOf a))) → P (answered (step t a))
+-- P is said of what a taken action shows, of 1 to 5 where they hold, and, for an action that fits a table that keeps the rules, of its kind's own
+pub step-each : (P : Answer → Type 0) (t : Table) (a : List ℕ) → (Taken t (actionOf a) → P (answer 0 (takenShown t (actionOf a))))
+    → EachHeld P (commonRefusals t a) → (Fails (broken t) → Fits (count t) (actionOf a) → EachHeld P (ownRefusals t (actionOf a)))
+    → P (answered (step t a))
 unfolding step refusals every
-step-each P t a none common own = go (ℕ-discrete (first (commonRefusals t a)) 0)
+step-each P t a none common own = go (eqb (first (refusals t a)) 0) refl
   where
-    go : Dec (first (commonRefusals t a) ≡ 0) → P (given (commonRefusals t a ++ ownRefusals t (actionOf a)))
-    go (yes e) =
+    of : (rs : List Refusal) → EachHeld P rs → ((first rs ≡ 0 → ⊥) → P (given rs))
+    of rs each = given-each (λ x. (x .number ≡ 0 → ⊥) → P x) rs (λ n. absurd (n refl)) (each-map rs (λ x h _. h) each)
+
+    held : Dec (first (commonRefusals t a) ≡ 0) → (first (commonRefusals t a ++ ownRefusals t (actionOf a)) ≡ 0 → ⊥) → P (given (commonRefusals t a ++ ownRefusals t (actionOf a)))
+    held (yes e) =
         let (sound, fit) = common-fit t a (none-hold (commonRefusals t a) tt e) in
-        rw (given-none (commonRefusals t a) (ownRefusals t (actionOf a)) tt e) (given-each P (ownRefusals t (actionOf a)) none (own sound fit))
-    go (no n) =
-        rw (given-held (commonRefusals t a) (ownRefusals t (actionOf a)) n) (given-each P (commonRefusals t a) none common)
+        subst (λ (x : Answer). (x .number ≡ 0 → ⊥) → P x) (sym (given-none (commonRefusals t a) (ownRefusals t (actionOf a)) tt e))
+        (of (ownRefusals t (actionOf a)) (own sound fit))
+    held (no n) =
+        subst (λ (x : Answer). (x .number ≡ 0 → ⊥) → P x) (sym (given-held (commonRefusals t a) (ownRefusals t (actionOf a)) n))
+        (of (commonRefusals t a) common)
+
+    go : (b : Bool) → eqb (first (refusals t a)) 0 ≡ b
+        → P (answer (first (refusals t a)) (cond b (takenShown t (actionOf a)) (firstShown (refusals t a))))
+    go true e = let z : first (refusals t a) ≡ 0 = eqb-true _ _ e in rw z (none (taken t a z))
+    go false e = held (ℕ-discrete (first (commonRefusals t a)) 0) (λ z. eqb-false _ _ e z)

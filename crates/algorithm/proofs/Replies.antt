@@ -1,5 +1,6 @@
 -- Replies: every answer of the algorithm is one that the enum carries and eight bytes hold, and how a judge's tests give it. Assumes nothing.
 use Prim.Native.Nat.{ℕ, zero, suc, _+_, _*_, _/_, _%_, _≤_, _<_}
+use native.Mathlib.Decide.{ℕ-discrete}
 use native.Mathlib.Omega.{arith}
 use mathlib.Core.Bool.{Bool, true, false, not, cond, _&&_}
 use mathlib.Core.List.{List, [], _∷_, _++_, flatten}
@@ -10,7 +11,7 @@ use lib.ListN.{length, getD, take, drop}
 use lib.Pow.{pow-mono}
 use lib.Seq.{drop-drop}
 use borrow.Author.Needs.{needs}
-use borrow.Author.Tests.{ne-eqb}
+use borrow.Author.Tests.{ne-eqb, eqb-true}
 use Rattle.words.specs.Lists.{every, between}
 use Rattle.words.specs.Words.{pairOf, valueOf, eight}
 use Rattle.words.specs.Refusal.{Shown, nothing, Refusal, refuseShowing, first, firstShown, Answer, answer, given}
@@ -22,11 +23,12 @@ use Rattle.members.specs.Rules.{mayFollow, oldApart, newApart}
 use Rattle.members.proofs.Lowest.{lowest-le}
 use Rattle.members.proofs.Pairs.{some-apart, majority-range}
 use Rattle.algorithm.specs.declared.Reply.{Reply}
-use Rattle.algorithm.specs.declared.Reply.the-variants.{Taken, Refused, RefusedAt, Apart}
-use Rattle.algorithm.specs.Table.{Table, count, server}
-use Rattle.algorithm.specs.Actions.{Action, unknown, elect, reconfigure, send, spread, write, fetch, rollBack, commit, actionOf, oneServer, apartShown, majorityRefusals, markRefusals, sendRefusals, spreadRefusals, writeRefusals, fetchRefusals, rollBackRefusals}
-use Rattle.algorithm.specs.Run.{answerOf, replyOf, replyBytes, answerIn, repliesBytes, numbers, commonRefusals, ownRefusals, answered, step, pieces, answersIn, play}
-use Rattle.algorithm.proofs.Refused.{Fits, step-each}
+use Rattle.algorithm.specs.declared.Reply.the-variants.{Taken, Refused, RefusedAt, Apart, Copied}
+use Rattle.algorithm.specs.Table.{Table, count, server, positions}
+use Rattle.algorithm.specs.Actions.{Action, unknown, elect, reconfigure, send, spread, write, fetch, rollBack, commit, actionOf, oneServer, apartShown, majorityRefusals, markRefusals, sendRefusals, spreadRefusals, writeRefusals, fetchRefusals, rollBackRefusals, stretch, copiedShown, fetches, electRefusals, commitRefusals}
+use Rattle.algorithm.specs.Run.{answerOf, replyOf, replyBytes, answerIn, repliesBytes, numbers, commonRefusals, ownRefusals, answered, step, pieces, answersIn, play, takenReply, takenShown, refusals}
+use Rattle.algorithm.proofs.Refused.{Fits, step-each, common-fit, taken}
+use Rattle.algorithm.proofs.Fetches.{copied-most}
 use Rattle.algorithm.proofs.Seen.{within-width}
 use Rattle.algorithm.proofs.Sound.{SoundTable, table-sound, here-sound}
 
@@ -40,6 +42,10 @@ module _ (r : Reply) where
   pub taken-eight : r ≡ Taken → 0 ≡ valueOf (replyBytes (answerOf r))
   unfolding valueOf
   taken-eight e = rw e
+
+  pub copied-eight : (n : ℕ) → r ≡ Copied n → 65536 * n ≡ valueOf (replyBytes (answerOf r))
+  unfolding valueOf
+  copied-eight n e = rw e (omega arith)
 
   pub refused-eight : (k : ℕ) → r ≡ Refused k → k ≡ valueOf (replyBytes (answerOf r))
   unfolding valueOf
@@ -82,8 +88,14 @@ plain k h = served k 0 h (omega arith)
 quiet-carried : (rs : List Refusal) → T (every (λ r. between 1 255 (r .number)) rs) → EachHeld Carried (quiet rs)
 quiet-carried = quiet-each Carried (between 1 255) plain
 
-taken : Carried (answer 0 nothing)
-taken = record { same = refl; number = omega arith; server = omega arith; copied = omega arith; old = omega arith; new = omega arith }
+-- how many were copied fits a byte, and 0 is the same as nothing
+copied-carried : (k : ℕ) → k < 256 → Carried (answer 0 (copiedShown k))
+copied-carried k h =
+    record { same = said (ℕ-discrete k 0); number = omega arith; server = omega arith; copied = h; old = omega arith; new = omega arith }
+  where
+    said : Dec (k ≡ 0) → answerOf (takenReply (copiedShown k)) ≡ answer 0 (copiedShown k)
+    said (yes e) = rw e
+    said (no n) = rw (ne-eqb k 0 n)
 
 -- the majorities that 13 shows are not empty, and fit two bytes
 apart-carried : (R old new : ℕ) → 0 < old → old < 65536 → 0 < new → new < 65536 → Passes (not (mayFollow R old new)) → Carried (answer 13 (apartShown R old new))
@@ -132,11 +144,33 @@ module _ (t : Table) (sound : SoundTable t) where
   own-carried (rollBack i j) fit = quiet-carried (rollBackRefusals t i j) tt
   own-carried (commit i q) fit =
       (λ _. quietly 6 tt, (λ _. quietly 7 tt, (λ _. quietly 22 tt, (λ _. fault-carried 23 _ _ tt, (λ _. quietly 24 tt, tt)))))
+  own-carried (stretch i j c) fit = quiet-carried (fetchRefusals t i j) tt
+
+-- nothing is shown
+nothing-carried : Carried (answer 0 nothing)
+nothing-carried = copied-carried 0 (omega arith)
+
+-- a stretch copies no more than its count says, which is at most 64
+taken-carried : (t : Table) (a : Action) → Fits (count t) a → Carried (answer 0 (takenShown t a))
+taken-carried t unknown fit = nothing-carried
+taken-carried t (elect i q) fit = nothing-carried
+taken-carried t (reconfigure i m) fit = nothing-carried
+taken-carried t (send i j) fit = nothing-carried
+taken-carried t (spread i j) fit = nothing-carried
+taken-carried t (write i) fit = nothing-carried
+taken-carried t (fetch i j) fit = nothing-carried
+taken-carried t (rollBack i j) fit = nothing-carried
+taken-carried t (commit i q) fit = nothing-carried
+taken-carried t (stretch i j c) (_, fits) =
+    let most : c ≤ positions = at-most (both {a = leb 1 c} fits .1) in
+    copied-carried (fetches c t i j .copied) (omega (arith, copied-most i j c t))
 
 -- so is the answer to every action
 pub step-carried : (t : Table) (a : List ℕ) → Carried (answered (step t a))
 unfolding every
-step-carried t a = step-each Carried t a taken (quiet-carried (commonRefusals t a) tt) (λ sound fit. own-carried t (table-sound sound) (actionOf a) fit)
+step-carried t a =
+    step-each Carried t a (λ k. taken-carried t (actionOf a) (k .fit)) (quiet-carried (commonRefusals t a) tt)
+    (λ sound fit. own-carried t (table-sound sound) (actionOf a) fit)
 
 -- where the reply is taken, no refusal's number is given
 pub taken-number : (a : Answer) → replyOf a ≡ Taken → a .number ≡ 0
@@ -145,7 +179,7 @@ taken-number a e = go (eqb (a .number) 0) refl (eqb (a .shown .server) 0) (eqb (
     bare : Bool → Reply
     bare d = cond d (Refused (a .number)) (Apart (a .shown .old) (a .shown .new))
 
-    go : (b : Bool) → eqb (a .number) 0 ≡ b → (c d : Bool) → cond b Taken (cond c (bare d) (RefusedAt (a .number) (a .shown .server))) ≡ Taken
+    go : (b : Bool) → eqb (a .number) 0 ≡ b → (c d : Bool) → cond b (takenReply (a .shown)) (cond c (bare d) (RefusedAt (a .number) (a .shown .server))) ≡ Taken
         → a .number ≡ 0
     go true f c d e = eqb-yes (subst T (sym f) tt)
     go false f false d e = ap (λ (r : Reply). answerOf r .number) e

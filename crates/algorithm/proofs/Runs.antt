@@ -11,12 +11,13 @@ use lib.ListN.{length, take, drop, length-append, length-drop}
 use lib.Seq.{take-append-le, drop-append-le, drop-drop}
 use Rattle.words.proofs.Tests.{Fails, fails-false, false-fails, neither, one-refuted, equal, unequal}
 use Rattle.algorithm.specs.Table.{Server, Table, broken, server, mark, withServers, withMarks}
-use Rattle.algorithm.specs.Actions.{Action, unknown, elect, reconfigure, send, spread, write, fetch, rollBack, commit, actionOf}
+use Rattle.algorithm.specs.Actions.{Action, unknown, elect, reconfigure, send, spread, write, fetch, rollBack, commit, stretch, actionOf}
 use Rattle.algorithm.specs.Run.{after, answered, step, pieces, pieceCount, Ran, play, runTo, run, wonBy, wonAlong}
 use Rattle.words.proofs.Choice.{put-elim}
 use Rattle.words.proofs.Lists.{nth-replace}
 use Rattle.algorithm.proofs.Refused.{Taken, outcome}
 use Rattle.algorithm.proofs.Sound.{table-sound, here-sound}
+use Rattle.algorithm.proofs.Fetches.{fetches-keep}
 use Rattle.algorithm.proofs.Kept.{step-sound}
 
 -- ---- steps and runs
@@ -127,6 +128,7 @@ marks-after t (write i) k p o = refl
 marks-after t (fetch i j) k p o = refl
 marks-after t (rollBack i j) k p o = refl
 marks-after t (commit i q) k p o = commit-marks t i q k p o
+marks-after t (stretch i j c) k p o = fetches-keep i j (λ s. mark s p ≡ mark t p) (λ s none e. e) c t refl
 
 mark-step : (t : Table) (a : List ℕ) (p : ℕ) → 0 < mark t p → mark (step t a .table) p ≡ mark t p
 mark-step t a p o =
@@ -152,6 +154,7 @@ module _ {A : Type 0} (f : Table → A) (servers : (ss : List Server) (t : Table
   after-stays t (fetch i j) = servers _ t
   after-stays t (rollBack i j) = servers _ t
   after-stays t (commit i q) = marks _ t
+  after-stays t (stretch i j c) = fetches-keep i j (λ s. f s ≡ f t) (λ s none e. servers _ s ∙ e) c t refl
 
   step-stays : (t : Table) (a : List ℕ) → f (step t a .table) ≡ f t
   step-stays t a = ⊎-elim (λ d. rw (d .table) (after-stays t (actionOf a))) (λ r. rw (r .table)) (outcome t a)

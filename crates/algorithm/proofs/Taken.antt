@@ -14,19 +14,20 @@ use Rattle.words.proofs.Tests.{Passes, both, together, either, neither, refuted
 use Rattle.members.proofs.Majorities.{majority-is, may-follow, most-map, none-passes, most-pass}
 use Rattle.words.specs.Lists.{nth, put}
 use Rattle.words.specs.Refusal.{refuse}
-use Rattle.algorithm.specs.Table.{Log, Server, Table, count, server, entry, entryAt, mark, withConfig, withEntry, withLog, positions, newer, last, held, prefix}
-use Rattle.algorithm.specs.Actions.{Action, elect, reconfigure, commit, send, spread, fetch, rollBack, write, unknown, actionOf, steppedDown, voted, winner, electAfter, someMarked, holdsMarked, p1, markedOtherwise, nextConfig, reconfigureAfter, sendAfter, spreadAfter, writeAfter, fetchAfter, rollBackAfter, entryRefusals, commitAfter}
+use Rattle.algorithm.specs.Table.{Log, Server, Table, count, server, entry, entryAt, mark, withConfig, withEntry, withLog, positions, newer, last, held, prefix, primary}
+use Rattle.algorithm.specs.Actions.{Action, elect, reconfigure, commit, send, spread, fetch, rollBack, write, unknown, actionOf, steppedDown, voted, winner, electAfter, someMarked, holdsMarked, p1, markedOtherwise, nextConfig, reconfigureAfter, sendAfter, spreadAfter, writeAfter, fetchAfter, rollBackAfter, entryRefusals, commitAfter, stretch, fetchRefusals, fetches}
 use Rattle.algorithm.specs.Run.{known, after, step, wins, wonBy}
 use Rattle.algorithm.proofs.Logless as logless
 use Rattle.algorithm.proofs.Logless.{core}
-use Rattle.words.proofs.Lists.{nth-replace}
+use Rattle.words.proofs.Lists.{length-replace, nth-replace}
 use Rattle.words.proofs.RefusalLaws.{NoneHold, none-before}
 use Rattle.algorithm.proofs.Refused.{Taken, outcome}
 use Rattle.algorithm.proofs.Logs.{HasEntry, Prefix}
 use Rattle.algorithm.proofs.Full as full
-use Rattle.algorithm.proofs.Full.{View, Settled, CanCommit, Moves, sets, rests, one}
+use Rattle.algorithm.proofs.Full.{View, Settled, CanFetch, CanCommit, LogMoves, then, Moves, sets, logs, rests, one}
 use Rattle.algorithm.proofs.Seen.{view, view-is, within-width, view-core, view-log, count-voted, log-voted, core-voted}
 use Rattle.algorithm.proofs.Sound.{SoundTable, table-sound, here-sound}
+use Rattle.algorithm.proofs.Fetches.{fetches-keep}
 
 -- ---- what the tests mean
 
@@ -170,15 +171,20 @@ module _ (t : Table) (i j : ℕ) where
       moved (spreadAfter t i j) (view-core t j (steppedDown (server t i .term) (server t j)) (k .fit .1) refl)
       (sets (logless.spread i j) (less (refuted (k .own 18)), tt))
 
-  fetch-moves : Taken t (fetch i j) → Moves (view t) (view (fetchAfter t i j)) []
-  fetch-moves k =
-      let (longer, joined) = both-refuted {a = ltb (length l) (length m)} (k .own 20) in
-      moved (fetchAfter t i j) (view-log t i (withEntry (entryAt m (length l + 1)) (server t i)) (k .fit .0) refl)
-      (one (full.fetch i j) tt (record {
-        secondary = equal (refuted (k .own 6));
+  can-fetch : NoneHold (fetchRefusals t i j) → CanFetch (view t) i j
+  can-fetch none =
+      let (longer, joined) = both-refuted {a = ltb (length l) (length m)} (none 20) in
+      record {
+        secondary = equal (refuted (none 6));
         longer = less longer;
         same = ⊎-elim (λ z. inl (equal z)) (λ e. inr (equal e)) (either joined);
-      }))
+      }
+
+  fetch-view : Passes (known (count t) i) → view (fetchAfter t i j) ≡ full.after (view t) (full.fetch i j)
+  fetch-view k = view-log t i (withEntry (entryAt m (length l + 1)) (server t i)) k refl
+
+  fetch-moves : Taken t (fetch i j) → Moves (view t) (view (fetchAfter t i j)) []
+  fetch-moves k = moved (fetchAfter t i j) (fetch-view (k .fit .0)) (one (full.fetch i j) tt (can-fetch (k .own)))
 
   roll-back-moves : Taken t (rollBack i j) → Moves (view t) (view (rollBackAfter t i j)) []
   roll-back-moves k =
@@ -189,6 +195,20 @@ module _ (t : Table) (i j : ℕ) where
         less = less (refuted smaller);
         no-prefix = λ f. contradiction apart (is-prefix l m f);
       }))
+
+-- a stretch is a fetch after another
+stretch-moves : (t : Table) (i j c : ℕ) → Taken t (stretch i j c) → Moves (view t) (view (fetches c t i j .table)) []
+stretch-moves t i j c k = logs (fetches-keep i j Leading leads c t (k .fit .0 .0, λ v more. more) .1 _ full.none)
+  where
+    -- what is reached from s is reached from t
+    Leading : Table → Type 0
+    Leading s = Passes (known (count s) i) × ((v : View) → LogMoves (view s) v → LogMoves (view t) v)
+
+    leads : (s : Table) → NoneHold (fetchRefusals s i j) → Leading s → Leading (fetchAfter s i j)
+    leads s none (here, lead) = (
+      rw (length-replace (s .servers) i _) here,
+      λ v more. lead v (then (full.fetch i j) tt (can-fetch s i j none) (subst (λ w. LogMoves w v) (fetch-view s i j here) more)),
+    )
 
 write-moves : (t : Table) (i : ℕ) → Taken t (write i) → Moves (view t) (view (writeAfter t i)) []
 write-moves t i k =
@@ -233,6 +253,7 @@ taken-moves t (write i) k = write-moves t i k
 taken-moves t (fetch i j) k = fetch-moves t i j k
 taken-moves t (rollBack i j) k = roll-back-moves t i j k
 taken-moves t (commit i q) k = commit-moves t i q k
+taken-moves t (stretch i j c) k = stretch-moves t i j c k
 
 -- whatever table and bytes: a step of the algorithm is moves of the theory
 pub moves : (t : Table) (a : List ℕ) → Moves (view t) (view (step t a .table)) (wonBy t a)

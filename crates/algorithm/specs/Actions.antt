@@ -1,4 +1,4 @@
--- The eight actions: the bytes that name one; for each kind the refusals that are its own, lowest first, and the table after it.
+-- The nine actions: the bytes that name one; for each kind the refusals that are its own, lowest first, and the table after it.
 -- A byte is any number here; those that come from a slice are below 256. Assumes nothing.
 use Prim.Native.Nat.{ℕ, zero, suc, _+_}
 use mathlib.Core.Bool.{Bool, true, false, cond, not, _||_, _&&_}
@@ -6,8 +6,9 @@ use mathlib.Core.List.{List, [], _∷_, _++_}
 use lib.Dec.{leb, ltb, eqb}
 use lib.ListN.{length, getD}
 use Rattle.words.specs.Words.{pairOf}
-use Rattle.words.specs.Refusal.{Shown, nothing, Refusal, refuse, refuseShowing}
-use Rattle.members.specs.Members.{member, majority, somePass, mostPass, lowestIn}
+use Rattle.words.specs.Refusal.{Shown, nothing, Refusal, refuse, refuseShowing, first, unlessRefused}
+use Rattle.members.specs.Members.{member, within, majority, somePass, mostPass, lowestIn}
+use Rattle.words.specs.Lists.{between}
 use Rattle.members.specs.Rules.{mayFollow, oldApart, newApart}
 use Rattle.algorithm.specs.Table.{Config, configOf, entry, Log, Server, Table, count, server, primary, secondary, entryAt, termAt, mark, withServers, withServer, changed, withMark, withRole, withTerm, withConfig, withEntry, withoutLast, ceiling, positions, newer, last, ahead, held, prefix}
 
@@ -33,25 +34,30 @@ jOf bs = byte bs 2
 abbrev pub setOf : List ℕ → ℕ
 setOf bs = pairOf (byte bs 4) (byte bs 5)
 
--- every kind uses i; elect, reconfigure and commit use the set
+-- every kind uses i; elect, reconfigure and commit use the set, and a stretch uses its bytes for a count
 abbrev pub usesSet : ℕ → Bool
-usesSet k = eqb k 1 || eqb k 2 || eqb k 8
+usesSet k = eqb k 1 || eqb k 2 || eqb k 8 || eqb k 9
 
--- send, spread, fetch and roll back use j
+-- what may stand there: of a stretch as many entries as a log may have, but one at least; of the other kinds a set of some of n servers
+abbrev pub setFits : ℕ → ℕ → ℕ → Bool
+setFits n k M = cond (eqb k 9) (between 1 positions M) (within M n)
+
+-- send, spread, fetch, roll back and a stretch use j
 abbrev pub usesJ : ℕ → Bool
-usesJ k = eqb k 3 || eqb k 4 || eqb k 6 || eqb k 7
+usesJ k = eqb k 3 || eqb k 4 || eqb k 6 || eqb k 7 || eqb k 9
 
 -- an action: its kind and what that uses, or an unknown kind
 pub data Action : Type 0 where
   elect reconfigure commit : ℕ → ℕ → Action
   send spread fetch rollBack : ℕ → ℕ → Action
   write : ℕ → Action
+  stretch : ℕ → ℕ → ℕ → Action
   unknown : Action
 
 -- the actions by the numbers of their kinds, from 0
 abbrev pub kinds : ℕ → ℕ → ℕ → List Action
 kinds i j M =
-    unknown ∷ elect i M ∷ reconfigure i M ∷ send i j ∷ spread i j ∷ write i ∷ fetch i j ∷ rollBack i j ∷ commit i M ∷ []
+    unknown ∷ elect i M ∷ reconfigure i M ∷ send i j ∷ spread i j ∷ write i ∷ fetch i j ∷ rollBack i j ∷ commit i M ∷ stretch i j M ∷ []
 
 -- the action that the bytes name
 abbrev pub actionOf : List ℕ → Action
@@ -310,3 +316,27 @@ abbrev pub commitAfter : Table → ℕ → ℕ → Table
 commitAfter t i Q =
     let a = server t i in
     withMark t (length (a .log)) (a .term)
+
+-- ---- 9: fetch a stretch of c entries to i from j; its refusals are those of a fetch
+
+-- single fetches one after another: how many were taken, and the table after them
+pub record Fetched : Type 0 where
+  pub copied : ℕ
+  pub table : Table
+
+-- no fetch, of the table t
+abbrev pub noFetch : Table → Fetched
+noFetch t = record { copied = 0; table = t }
+
+-- a fetch, and then those of f
+abbrev pub oneFetch : Fetched → Fetched
+oneFetch f = record { copied = suc (f .copied); table = f .table }
+
+-- c fetches to i from j, without the first that would be refused and those behind it
+unfoldable pub fetches : ℕ → Table → ℕ → ℕ → Fetched
+fetches zero t i j = noFetch t
+fetches (suc c) t i j = unlessRefused (first (fetchRefusals t i j)) (oneFetch (fetches c (fetchAfter t i j) i j)) (noFetch t)
+
+-- what is shown of k entries copied
+abbrev pub copiedShown : ℕ → Shown
+copiedShown k = record { server = 0; copied = k; old = 0; new = 0 }

@@ -7,26 +7,30 @@ use lib.ListN.{length, take, drop}
 use Rattle.words.specs.Lists.{between}
 use Rattle.words.specs.Words.{half, halfAt}
 use Rattle.words.specs.Refusal.{Shown, nothing, Refusal, refuse, Answer, answer, given, unlessRefused}
-use Rattle.members.specs.Members.{within}
 use Rattle.algorithm.specs.declared.Reply.{Reply}
-use Rattle.algorithm.specs.declared.Reply.the-variants.{Taken, Refused, RefusedAt, Apart}
+use Rattle.algorithm.specs.declared.Reply.the-variants.{Taken, Refused, RefusedAt, Apart, Copied}
 use Rattle.algorithm.specs.Table.{Table, count, broken, server}
-use Rattle.algorithm.specs.Actions.{oneServer, twoSets, byte, kindOf, iOf, jOf, setOf, usesSet, usesJ, Action, unknown, elect, reconfigure, send, spread, write, fetch, rollBack, commit, actionOf, electRefusals, reconfigureRefusals, sendRefusals, spreadRefusals, writeRefusals, fetchRefusals, rollBackRefusals, commitRefusals, electAfter, reconfigureAfter, sendAfter, spreadAfter, writeAfter, fetchAfter, rollBackAfter, commitAfter}
+use Rattle.algorithm.specs.Actions.{oneServer, twoSets, byte, kindOf, iOf, jOf, setOf, usesSet, usesJ, Action, unknown, elect, reconfigure, send, spread, write, fetch, rollBack, commit, actionOf, electRefusals, reconfigureRefusals, sendRefusals, spreadRefusals, writeRefusals, fetchRefusals, rollBackRefusals, commitRefusals, electAfter, reconfigureAfter, sendAfter, spreadAfter, writeAfter, fetchAfter, rollBackAfter, commitAfter, copiedShown, setFits, stretch, fetches}
 
 -- ---- replies
 
 -- the number of a reply, and what it shows
 abbrev pub answerOf : Reply → Answer
 answerOf Taken = answer 0 nothing
+answerOf (Copied k) = answer 0 (copiedShown k)
 answerOf (Refused k) = answer k nothing
 answerOf (RefusedAt k s) = answer k (oneServer s)
 answerOf (Apart old new) = answer 13 (twoSets old new)
 
--- the reply that gives an answer: with the server, where one is shown; the majorities, where some are; and else the number alone
+-- the reply to an action that is taken: how many entries were copied, where some were
+abbrev pub takenReply : Shown → Reply
+takenReply s = cond (eqb (s .copied) 0) Taken (Copied (s .copied))
+
+-- the reply that gives an answer: of a refusal with the server, where one is shown; the majorities, where some are; and else the number alone
 abbrev pub replyOf : Answer → Reply
 replyOf a =
     let bare = cond (eqb (a .shown .old) 0) (Refused (a .number)) (Apart (a .shown .old) (a .shown .new)) in
-    unlessRefused (a .number) Taken (cond (eqb (a .shown .server) 0) bare (RefusedAt (a .number) (a .shown .server)))
+    unlessRefused (a .number) (takenReply (a .shown)) (cond (eqb (a .shown .server) 0) bare (RefusedAt (a .number) (a .shown .server)))
 
 -- an answer in eight bytes: the number, the server, how many entries were copied, 0, and the two majorities
 abbrev pub replyBytes : Answer → List ℕ
@@ -58,16 +62,16 @@ strayZero bs = stray (byte bs 3) || stray (byte bs 6) || stray (byte bs 7)
 abbrev pub known : ℕ → ℕ → Bool
 known n i = between 1 n i
 
--- k is the number of none of the eight kinds
+-- k is the number of none of the nine kinds
 abbrev pub unknownKind : ℕ → Bool
-unknownKind k = not (between 1 8 k)
+unknownKind k = not (between 1 9 k)
 
 -- 3 to 5 of the kind k, beside a table of n servers; z tells whether a zero byte is not 0
 abbrev pub fieldRefusals : ℕ → Bool → ℕ → ℕ → ℕ → ℕ → List Refusal
 fieldRefusals n z k i j M =
     refuse 3 (z || not (usesJ k) && stray j || not (usesSet k) && stray M)
     ∷ refuse 4 (not (known n i) || usesJ k && not (known n j))
-    ∷ refuse 5 (usesSet k && not (within M n))
+    ∷ refuse 5 (usesSet k && not (setFits n k M))
     ∷ []
 
 -- 2 to 5
@@ -91,6 +95,7 @@ ownRefusals t (write i) = writeRefusals t i
 ownRefusals t (fetch i j) = fetchRefusals t i j
 ownRefusals t (rollBack i j) = rollBackRefusals t i j
 ownRefusals t (commit i Q) = commitRefusals t i Q
+ownRefusals t (stretch i j c) = fetchRefusals t i j
 
 -- all refusals of the action that the bytes name, lowest number first
 unfoldable pub refusals : Table → List ℕ → List Refusal
@@ -107,6 +112,20 @@ after t (write i) = writeAfter t i
 after t (fetch i j) = fetchAfter t i j
 after t (rollBack i j) = rollBackAfter t i j
 after t (commit i Q) = commitAfter t i Q
+after t (stretch i j c) = fetches c t i j .table
+
+-- what an action shows where it is taken: a stretch how many entries were copied, any other kind nothing
+abbrev pub takenShown : Table → Action → Shown
+takenShown t unknown = nothing
+takenShown t (elect i Q) = nothing
+takenShown t (reconfigure i M) = nothing
+takenShown t (send i j) = nothing
+takenShown t (spread i j) = nothing
+takenShown t (write i) = nothing
+takenShown t (fetch i j) = nothing
+takenShown t (rollBack i j) = nothing
+takenShown t (commit i Q) = nothing
+takenShown t (stretch i j c) = copiedShown (fetches c t i j .copied)
 
 -- ---- steps and runs
 
@@ -120,11 +139,17 @@ pub record Outcome : Type 0 where
 abbrev pub answered : Outcome → Answer
 answered o = answer (o .number) (o .shown)
 
--- the action that the bytes name is taken if no refusal holds; otherwise the reply is the first that does, and the table stays
+-- the action x by the answer a that its refusals give: with 0 it is taken; otherwise the reply is that answer, and the table stays
+abbrev pub outcomeBy : Table → Answer → Action → Outcome
+outcomeBy t a x = record {
+  number = a .number;
+  shown = unlessRefused (a .number) (takenShown t x) (a .shown);
+  table = unlessRefused (a .number) (after t x) t;
+}
+
+-- the action that the bytes name is taken if no refusal holds; otherwise the reply is the first that does
 unfoldable pub step : Table → List ℕ → Outcome
-step t bs =
-    let a = given (refusals t bs) in
-    record { number = a .number; shown = a .shown; table = unlessRefused (a .number) (after t (actionOf bs)) t }
+step t bs = outcomeBy t (given (refusals t bs)) (actionOf bs)
 
 -- the first k pieces of 8 bytes; one that the end cuts is shorter, and beyond the end they are empty: neither is ever taken
 unfoldable pub pieces : ℕ → List ℕ → List (List ℕ)
@@ -171,6 +196,7 @@ wins t (write i) = []
 wins t (fetch i j) = []
 wins t (rollBack i j) = []
 wins t (commit i q) = []
+wins t (stretch i j c) = []
 
 -- the term that a step wins: none where it is refused
 unfoldable pub wonBy : Table → List ℕ → List ℕ

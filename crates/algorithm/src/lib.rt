@@ -61,10 +61,11 @@ pub fn position_below(p: Position, q: Position) -> bool
     p.0 < q.0
 }
 
-// The reply to an action: a refusal's number, for some with the server that stands in the way; or, for refusal 13 where it shows them, a
-// majority of the old set and one of the new without a common server.
+// The reply to an action: taken, with the number of entries where a stretch was copied; a refusal's number, for some with the server that
+// stands in the way; or, for refusal 13 where it shows them, a majority of the old set and one of the new without a common server.
 pub enum Reply {
     Taken,
+    Copied(u8),
     Refused(u8),
     RefusedAt(u8, u8),
     Apart(u16, u16),
@@ -76,6 +77,7 @@ pub fn number(r: Reply) -> u8
 {
     match r {
         Reply::Taken => 0,
+        Reply::Copied(_) => 0,
         Reply::Refused(k) => k,
         Reply::RefusedAt(k, _) => k,
         Reply::Apart(_, _) => 13,
@@ -88,6 +90,7 @@ pub fn eight_bytes(r: Reply) -> u64
 {
     match r {
         Reply::Taken => 0,
+        Reply::Copied(n) => 65536 * (n as u64),
         Reply::Refused(k) => k as u64,
         Reply::RefusedAt(k, s) => k as u64 + 256 * (s as u64),
         Reply::Apart(old, new) => 13 + 4294967296 * (old as u64 + 65536 * (new as u64)),

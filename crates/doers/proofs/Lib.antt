@@ -1,3 +1,4 @@
 -- The laws of the doers.
 pub mod PutLaws
 pub mod VoteLaws
+pub mod StretchLaws

@@ -48,13 +48,13 @@ module _ (b b' : List ℕ) (i : ℕ) (a : Row) (e : a ≡ seen (server (tableIn 
       → Holds b' (writeAfter (tableIn b) i)
   write-put h = rw e at (h .holds)
 
-  pub fetch-put : (j v : ℕ) → v ≡ termAt (server (tableIn b) j .log) (a .length .0 + 1)
-      → Became b b' (withServer (tableIn b) i (withEntry (entry v) (server (tableIn b) i)))
-      → Holds b' (fetchAfter (tableIn b) i j)
-  fetch-put j v f h = rw (f, e) at (h .holds)
-
   pub commit-put : (q : ℕ) → Became b b' (withMark (tableIn b) (a .length .0) (a .figures .term .0)) → Holds b' (commitAfter (tableIn b) i q)
   commit-put q h = rw e at (h .holds)
+
+pub fetch-put : (b b' : List ℕ) (i j n v : ℕ) → (n ≡ length (server (tableIn b) i .log)) × (n ≤ positions) → v ≡ termAt (server (tableIn b) j .log) (n + 1)
+    → Became b b' (withServer (tableIn b) i (withEntry (entry v) (server (tableIn b) i)))
+    → Holds b' (fetchAfter (tableIn b) i j)
+fetch-put b b' i j n v (e, _) f h = rw (f, e) at (h .holds)
 
 -- ---- the last position of a log that was read
 

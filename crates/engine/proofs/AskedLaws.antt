@@ -5,24 +5,27 @@ use mathlib.Core.Path.{_≡_, sym, subst}
 use mathlib.Core.Logic.{_≢_}
 use mathlib.Core.Bool.{true, not}
 use mathlib.Core.List.{List, [], _∷_}
-use lib.Dec.{T, ltb, eqb}
+use lib.Dec.{T, leb, ltb, eqb}
 use lib.ListN.{length}
+use borrow.Author.Tests.{ne-eqb}
 use Rattle.words.specs.Lists.{every}
-use Rattle.words.specs.Refusal.{first, given}
-use Rattle.words.proofs.Tests.{Fails, both, together, neither, both-refuted, unequal, less, above, is-true, is-at-most, false-fails}
+use Rattle.words.specs.Refusal.{first, answer, given}
+use Rattle.words.proofs.Tests.{Fails, both, together, neither, both-refuted, unequal, less, at-most, above, is-true, is-at-most, false-fails}
 use Rattle.words.proofs.RefusalLaws.{none-hold}
 use Rattle.members.specs.Members.{within}
 use Rattle.algorithm.specs.declared.Reply.{Reply}
+use Rattle.algorithm.specs.declared.Reply.the-variants.{Taken, Copied}
 use Rattle.algorithm.specs.Table.{Log, Table, count, server, ceiling, positions, last, prefix}
-use Rattle.algorithm.specs.Actions.{joins, electRefusals, reconfigureRefusals, writeRefusals, fetchRefusals, rollBackRefusals, commitRefusals}
-use Rattle.algorithm.specs.Run.{replyOf, ownRefusals, after}
+use Rattle.algorithm.specs.Actions.{joins, electRefusals, reconfigureRefusals, writeRefusals, fetchRefusals, rollBackRefusals, commitRefusals, fetches}
+use Rattle.algorithm.specs.Run.{replyOf, ownRefusals, after, takenShown}
 use Rattle.algorithm.proofs.Refused.{Fits}
+use Rattle.algorithm.proofs.Fetches.{some-copied}
 use Rattle.algorithm.proofs.Sound.{SoundServer, table-sound, here-sound}
 use Rattle.table.specs.Layout.{tableIn}
 use Rattle.table.specs.Slice.{Holds, Within}
 use Rattle.table.proofs.HeldLaws.{known-within}
 use Rattle.form.specs.declared.Asked.{Asked}
-use Rattle.form.specs.declared.Asked.the-variants.{Elect, Reconfigure, Send, Spread, Write, Fetch, RollBack, Commit}
+use Rattle.form.specs.declared.Asked.the-variants.{Elect, Reconfigure, Send, Spread, Write, Fetch, RollBack, Commit, Stretch}
 use Rattle.form.specs.Form.{named}
 use Rattle.engine.specs.Engine.{Ready, Fitting}
 
@@ -35,6 +38,7 @@ fits b (Write i) k = known-within k
 fits b (Fetch i j) (k, l) = (known-within k, known-within l)
 fits b (RollBack i j) (k, l) = (known-within k, known-within l)
 fits b (Commit i q) (k, w) = (known-within k, is-true _ (w .yes))
+fits b (Stretch i j c) ((k, l), w) = let (some, most) = both {a = leb 1 c} w in (known-within k, known-within l, (at-most some, at-most most))
 
 -- ---- who takes part
 
@@ -81,6 +85,16 @@ module _ (b : List ℕ) (x : Asked) (i j : ℕ) (f : Fitting b x) where
   pub commit-set : x ≡ Commit i j → within j (count (tableIn b)) ≡ true
   commit-set e = (rw e at f) .1
 
+module _ (b : List ℕ) (x : Asked) (i j c : ℕ) (f : Fitting b x) (e : x ≡ Stretch i j c) where
+  pub stretch-i : Within b i
+  stretch-i = (rw e at f) .0
+
+  pub stretch-j : Within b j
+  stretch-j = (rw e at f) .1
+
+  stretch-count : (1 ≤ c) × (c ≤ positions)
+  stretch-count = (rw e at f) .2
+
 sound-at : {b : List ℕ} {i : ℕ} → Ready b → Within b i → SoundServer (count (tableIn b)) (server (tableIn b) i)
 sound-at {b} {i} h w = here-sound (table-sound (false-fails (h .sound))) i (together (is-at-most (w .some)) (is-at-most (w .known)))
 
@@ -98,6 +112,10 @@ module _ (b : List ℕ) (x : Asked) (i m : ℕ) (h : Ready b) (f : Fitting b x) 
 
 pub judged : (t : Table) (x y : Asked) (r : Reply) → x ≡ y → r ≡ replyOf (given (ownRefusals t (named y))) → r ≡ replyOf (given (ownRefusals t (named x)))
 judged t x y r e h = rw e h
+
+-- nothing is shown of it
+pub quietly : (t : Table) (x y : Asked) → x ≡ y → Taken ≡ replyOf (answer 0 (takenShown t (named y))) → Taken ≡ replyOf (answer 0 (takenShown t (named x)))
+quietly t x y e h = rw e h
 
 pub did : (b : List ℕ) (t : Table) (x y : Asked) → x ≡ y → Holds b (after t (named y)) → Holds b (after t (named x))
 did b t x y e h = rw e h
@@ -150,3 +168,14 @@ module _ (b : List ℕ) (x : Asked) (i j : ℕ) (h : Ready b) (f : Fitting b x) 
       let n = length (server (tableIn b) i .log) in
       let some : n ≢ 0 = unequal (neither {a = eqb n 0} (none-hold (commitRefusals (tableIn b) i j) tt (rw e at z) 22) .0) in
       omega arith
+
+-- a stretch is a fetch and perhaps more
+module _ (b : List ℕ) (x : Asked) (i j c : ℕ) (z : first (ownRefusals (tableIn b) (named x)) ≡ 0) (e : x ≡ Stretch i j c) where
+  pub stretch-first : first (fetchRefusals (tableIn b) i j) ≡ 0
+  stretch-first = rw e at z
+
+  -- so that some entry is copied
+  pub stretch-told : (k : ℕ) → Fitting b x → k ≡ fetches c (tableIn b) i j .copied → Copied k ≡ replyOf (answer 0 (takenShown (tableIn b) (named x)))
+  stretch-told k f h =
+      let some : k ≢ 0 = λ o. omega (arith, some-copied i j c (tableIn b) stretch-first (stretch-count b x i j c f e .0)) in
+      rw (e, ← h, ne-eqb k 0 some)

@@ -31,5 +31,6 @@ pub fn judge(t: &[u8], x: Asked) -> Reply
         Asked::Fetch(i, j) => judge_fetch(t, i, j),
         Asked::RollBack(i, j) => judge_roll_back(t, i, j),
         Asked::Commit(i, q) => judge_commit(t, i, q),
+        Asked::Stretch(i, j, _) => judge_fetch(t, i, j),
     }
 }

@@ -1,11 +1,12 @@
 // One action on a table that is whole, and a plan of them.
-ghost use Rattle.engine.specs.Engine.{Ready, Stepped, Played, AllRefused};
+ghost use Rattle.engine.specs.Engine.{Ready, Fitting, Answered, Stepped, Played, AllRefused};
 use crate::act::act;
 use crate::judges::judge;
 use crate::pieces::lesser;
 use crate::pieces::piece_count;
 use algorithm::Reply;
 use algorithm::eight_bytes;
+use form::Asked;
 use form::Form;
 use form::read_action;
 use table::rows::count_of;
@@ -16,20 +17,27 @@ pub mod act;
 pub mod judges;
 pub mod pieces;
 
-// An action is read, judged, and done if nothing speaks against it.
+// What is asked is judged, and done if nothing speaks against it.
+fn answer(t: &mut [u8], x: Asked) -> Reply
+    requires { ⌜ Ready (now t) ⌝ }
+    requires { ⌜ Fitting (now t) x ⌝ }
+    ensures { λ r. ⌜ Answered (now (t .entry)) x r (now (t .exit)) ⌝ }
+{
+    let own = judge(t, x);
+    if let Reply::Taken = own {
+        return act(t, x);
+    }
+    own
+}
+
+// An action is read, and answered if it asks for something.
 pub fn step(t: &mut [u8], a: &[u8]) -> Reply
     requires { ⌜ Ready (now t) ⌝ }
     ensures { λ r. ⌜ Stepped (now (t .entry)) (now (a .entry)) r (now (t .exit)) ⌝ }
 {
     match read_action(count_of(t), a) {
         Form::Refused(k) => Reply::Refused(k),
-        Form::Asks(x) => {
-            let own = judge(t, x);
-            if let Reply::Taken = own {
-                act(t, x);
-            }
-            own
-        }
+        Form::Asks(x) => answer(t, x),
     }
 }
 

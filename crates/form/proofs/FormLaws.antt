@@ -13,7 +13,9 @@ use Rattle.words.specs.Refusal.{Refusal, first}
 use Rattle.words.proofs.Tests.{Passes, both, both-refuted, false-fails, at-most}
 use Rattle.words.proofs.BelowLaws.{all-below}
 use Rattle.words.proofs.RefusalLaws.{none-hold}
-use Rattle.algorithm.specs.Actions.{kindOf, iOf, jOf, setOf, usesSet, usesJ, Action, unknown, elect, reconfigure, send, spread, write, fetch, rollBack, commit, kinds, actionOf}
+use Rattle.members.specs.Members.{within}
+use Rattle.algorithm.specs.Table.{positions}
+use Rattle.algorithm.specs.Actions.{kindOf, iOf, jOf, setOf, usesSet, setFits, usesJ, Action, unknown, elect, reconfigure, send, spread, write, fetch, rollBack, commit, stretch, kinds, actionOf}
 use Rattle.algorithm.specs.Run.{strayZero, unknownKind, formRefusals}
 use Rattle.form.specs.declared.Asked.{Asked}
 use Rattle.form.specs.declared.Fields.{Fields}
@@ -46,6 +48,15 @@ module _ (rs : List Refusal) (k : ℕ) (f : Form) (judged : k ≡ first rs) wher
   pub asked-form : k ≡ 0 → f ≡ formBy rs f
   asked-form o = rw (← judged, eq-eqb k 0 o)
 
+-- ---- the bytes of the set
+
+module _ (n k m : ℕ) (r : Bool) where
+  pub count-fits : k ≡ 9 → r ≡ between 1 positions m → r ≡ setFits n k m
+  count-fits e h = rw e h
+
+  pub set-within : (k ≡ 9 → ⊥) → r ≡ within m n → r ≡ setFits n k m
+  set-within o h = rw (ne-eqb k 9 o) h
+
 -- ---- the kind
 
 module _ (k x : ℕ) (b : Bool) (e : k ≡ x) where
@@ -67,17 +78,17 @@ past : {n k : ℕ} → n ≤ k → (k ≡ n → ⊥) → suc n ≤ k
 past l h = omega arith
 
 pub no-kind : (n : ℕ) (f : Fields) → (f .kind ≡ 1 → ⊥) → (f .kind ≡ 2 → ⊥) → (f .kind ≡ 3 → ⊥) → (f .kind ≡ 4 → ⊥) → (f .kind ≡ 5 → ⊥)
-    → (f .kind ≡ 6 → ⊥) → (f .kind ≡ 7 → ⊥) → (f .kind ≡ 8 → ⊥) → Refused 2 ≡ formBy (eightRefusals n f) (asks (actionBy f))
+    → (f .kind ≡ 6 → ⊥) → (f .kind ≡ 7 → ⊥) → (f .kind ≡ 8 → ⊥) → (f .kind ≡ 9 → ⊥) → Refused 2 ≡ formBy (eightRefusals n f) (asks (actionBy f))
 unfolding first
-no-kind n f n₁ n₂ n₃ n₄ n₅ n₆ n₇ n₈ = go (between 1 8 (f .kind)) refl
+no-kind n f n₁ n₂ n₃ n₄ n₅ n₆ n₇ n₈ n₉ = go (between 1 9 (f .kind)) refl
   where
-    go : (b : Bool) → between 1 8 (f .kind) ≡ b → Refused 2 ≡ formBy (eightRefusals n f) (asks (actionBy f))
+    go : (b : Bool) → between 1 9 (f .kind) ≡ b → Refused 2 ≡ formBy (eightRefusals n f) (asks (actionBy f))
     go false e = rw e
     go true e =
-        let (least, most) = both {a = leb 1 (f .kind)} {b = leb (f .kind) 8} (record { yes = rw e tt }) in
+        let (least, most) = both {a = leb 1 (f .kind)} {b = leb (f .kind) 9} (record { yes = rw e tt }) in
         let from : 1 ≤ f .kind = at-most least in
-        let to : f .kind ≤ 8 = at-most most in
-        let beyond : 9 ≤ f .kind = past (past (past (past (past (past (past (past from n₁) n₂) n₃) n₄) n₅) n₆) n₇) n₈ in
+        let to : f .kind ≤ 9 = at-most most in
+        let beyond : 10 ≤ f .kind = past (past (past (past (past (past (past (past (past from n₁) n₂) n₃) n₄) n₅) n₆) n₇) n₈) n₉ in
         absurd (omega arith)
 
 -- ---- what a form tells
@@ -87,11 +98,11 @@ abbrev isAsking : Form → Bool
 isAsking (Asks x) = true
 isAsking (Refused k) = false
 
-known-asks : (k i j m : ℕ) → 1 ≤ k → k ≤ 8 → Passes (isAsking (asks (getD (kinds i j m) k unknown)))
+known-asks : (k i j m : ℕ) → 1 ≤ k → k ≤ 9 → Passes (isAsking (asks (getD (kinds i j m) k unknown)))
 unfolding allBelow
 known-asks zero i j m l h = absurd (omega arith)
 known-asks (suc k) i j m l h =
-    all-below 8 (λ k. isAsking (asks (getD (kinds i j m) (suc k) unknown))) (record { yes = tt }) k (omega arith)
+    all-below 9 (λ k. isAsking (asks (getD (kinds i j m) (suc k) unknown))) (record { yes = tt }) k (omega arith)
 
 abbrev actionIn : Form → Action
 actionIn (Asks x) = named x
@@ -107,6 +118,7 @@ asked-back (write i) = refl
 asked-back (fetch i j) = refl
 asked-back (rollBack i j) = refl
 asked-back (commit i q) = refl
+asked-back (stretch i j c) = refl
 
 module _ (n : ℕ) (a : List ℕ) where
   pub told-asks : (x : Asked) → formOf n a ≡ Asks x → (first (formRefusals n a) ≡ 0) × (actionOf a ≡ named x)
@@ -122,7 +134,7 @@ module _ (n : ℕ) (a : List ℕ) where
     where
       go : (b : Bool) → eqb (first (formRefusals n a)) 0 ≡ b → cond b (asks (actionOf a)) (Refused (first (formRefusals n a))) ≡ Refused k → (first (formRefusals n a) ≡ k) × (k ≡ 0 → ⊥)
       go true e h =
-          let kind = both-refuted {a = eqb (length a) 8} {b = leb 1 (kindOf a) && leb (kindOf a) 8} (none-hold (formRefusals n a) tt (eqb-true _ _ e) 2) .1 in
+          let kind = both-refuted {a = eqb (length a) 8} {b = leb 1 (kindOf a) && leb (kindOf a) 9} (none-hold (formRefusals n a) tt (eqb-true _ _ e) 2) .1 in
           let (least, most) = both kind in
           absurd ((rw h at (known-asks (kindOf a) (iOf a) (jOf a) (setOf a) (at-most least) (at-most most))) .yes)
       go false e h =

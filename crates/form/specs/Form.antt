@@ -1,12 +1,12 @@
--- What the bytes of an action ask: one of the eight actions, or a refusal by its number. Assumes nothing.
+-- What the bytes of an action ask: one of the nine actions, or a refusal by its number. Assumes nothing.
 use Prim.Native.Nat.{ℕ}
 use mathlib.Core.List.{List, _∷_}
 use lib.ListN.{getD}
 use Rattle.words.specs.Refusal.{Refusal, refuse, first, unlessRefused}
-use Rattle.algorithm.specs.Actions.{kindOf, iOf, jOf, setOf, Action, unknown, elect, reconfigure, send, spread, write, fetch, rollBack, commit, kinds, actionOf}
+use Rattle.algorithm.specs.Actions.{kindOf, iOf, jOf, setOf, Action, unknown, elect, reconfigure, send, spread, write, fetch, rollBack, commit, stretch, kinds, actionOf}
 use Rattle.algorithm.specs.Run.{strayZero, unknownKind, fieldRefusals, formRefusals}
 use Rattle.form.specs.declared.Asked.{Asked}
-use Rattle.form.specs.declared.Asked.the-variants.{Elect, Reconfigure, Send, Spread, Write, Fetch, RollBack, Commit}
+use Rattle.form.specs.declared.Asked.the-variants.{Elect, Reconfigure, Send, Spread, Write, Fetch, RollBack, Commit, Stretch}
 use Rattle.form.specs.declared.Fields.{Fields}
 use Rattle.form.specs.declared.Form.{Form}
 use Rattle.form.specs.declared.Form.the-variants.{Asks, Refused}
@@ -21,6 +21,7 @@ named (Write i) = write i
 named (Fetch i j) = fetch i j
 named (RollBack i j) = rollBack i j
 named (Commit i Q) = commit i Q
+named (Stretch i j c) = stretch i j c
 
 -- what an action asks; an unknown one has refusal 2
 abbrev pub asks : Action → Form
@@ -33,6 +34,7 @@ asks (write i) = Asks (Write i)
 asks (fetch i j) = Asks (Fetch i j)
 asks (rollBack i j) = Asks (RollBack i j)
 asks (commit i Q) = Asks (Commit i Q)
+asks (stretch i j c) = Asks (Stretch i j c)
 
 -- the first of the refusals where one holds, and f otherwise
 abbrev pub formBy : List Refusal → Form → Form

@@ -1,14 +1,15 @@
 // An action read from its bytes, once: what is asked of a table of n servers, or why the bytes ask for nothing.
 ghost use mathlib.Core.Path.{_≡_};
 ghost use lib.ListN.{length};
-ghost use Rattle.algorithm.specs.Actions.{usesSet, usesJ};
+ghost use Rattle.algorithm.specs.Actions.{usesSet, setFits, usesJ};
 ghost use Rattle.algorithm.specs.Run.{known};
 ghost use Rattle.words.specs.Refusal.{first};
 ghost use Rattle.form.specs.Form.{fieldsOf, refusalsOf, eightRefusals, asks, actionBy, formBy, formOf};
+use algorithm::POSITIONS;
 use members::is_within;
 use words::half;
 
-// The eight actions, as document 01 names them: server i, and behind it server j or the set.
+// The nine actions, as documents 01 and 02 name them: server i, and behind it server j or the set; a stretch has j and its count.
 pub enum Asked {
     Elect(usize, u16),
     Reconfigure(usize, u16),
@@ -18,6 +19,7 @@ pub enum Asked {
     Fetch(usize, usize),
     RollBack(usize, usize),
     Commit(usize, u16),
+    Stretch(usize, usize, u16),
 }
 
 // What the bytes say: an action, or the number of the refusal.
@@ -55,6 +57,16 @@ fn is_known(n: u8, i: u8) -> bool
     (1 <= i) & (i <= n)
 }
 
+// The bytes of the set are the count of a stretch.
+fn set_fits(n: u8, kind: u8, m: u16) -> bool
+    ensures { λ r. ⌜ r ≡ setFits n kind m ⌝ }
+{
+    if kind == 9 {
+        return (1 <= m) & (m <= POSITIONS as u16);
+    }
+    is_within(m as u32, n)
+}
+
 // Refusals 3 to 5 of a kind that uses two servers, or a set, or neither.
 fn judge_fields(n: u8, f: Fields, two: bool, set: bool) -> u8
     requires { ⌜ two ≡ usesJ (f .kind) ⌝ }
@@ -67,7 +79,7 @@ fn judge_fields(n: u8, f: Fields, two: bool, set: bool) -> u8
     if !is_known(n, f.i) | (two & !is_known(n, f.j)) {
         return 4;
     }
-    if set & !is_within(f.set as u32, n) {
+    if set & !set_fits(n, f.kind, f.set) {
         return 5;
     }
     0
@@ -103,6 +115,7 @@ fn by_kind(n: u8, f: Fields) -> Form
         6 => unless_refused(n, f, true, false, Asked::Fetch(i, j)),
         7 => unless_refused(n, f, true, false, Asked::RollBack(i, j)),
         8 => unless_refused(n, f, false, true, Asked::Commit(i, m)),
+        9 => unless_refused(n, f, true, true, Asked::Stretch(i, j, m)),
         _ => Form::Refused(2),
     }
 }

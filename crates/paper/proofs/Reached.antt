@@ -28,17 +28,22 @@ use Rattle.algorithm.proofs.Safe.{Safe, no-mark, safe-fresh, safe-moves}
 use Rattle.algorithm.proofs.Safety.{marked-so}
 use Rattle.algorithm.specs.Actions as house
 use Rattle.algorithm.proofs.Invariant as invariant
-use Rattle.paper.specs.Paper.{Set, Primary, State, IsServer, Initial, Action, CommitEntry, Requires, Step, ElectionSafety, LeaderCompleteness}
+use Rattle.paper.specs.Paper.{Set, Primary, State, IsServer, Initial, Action, CommitEntry, Requires, ElectionSafety, LeaderCompleteness}
 use Rattle.paper.specs.Narrowings.{Narrowed}
 use Rattle.paper.specs.Runs.{Steps, none, then}
-use Rattle.paper.specs.Shown.{roleShown, setShown, logShown, shown}
+use Rattle.paper.specs.Shown.{roleShown, setShown, logShown, shown, timesAsked, Repeats, never, again, UpTo}
 use Rattle.paper.proofs.Quorum.{most-of, most-some}
 use Rattle.paper.proofs.Figures.{role-primary, length-shown, last-shown, in-log}
 use Rattle.paper.proofs.Exactly.{both-of, taken-leads}
 
 -- ---- every run is one of Algorithm 2
 
--- from any table: what a run shows at its end is reached by Algorithm 2's steps, one for each taken action
+-- a step after another
+in-turn : {b : Action} {k : ℕ} {t t′ : Table} {z : State} → Repeats b k t t′ → Steps (shown t′) z → Steps (shown t) z
+in-turn never rest = rest
+in-turn {b} (again h more) rest = then b h (in-turn more rest)
+
+-- from any table: what a run shows at its end is reached by Algorithm 2's steps, one for each taken action and, in a stretch, each entry copied
 pub runs : (t : Table) (p : List (List ℕ)) → Steps (shown t) (shown (play t p .table))
 unfolding play
 runs t [] = none
@@ -47,9 +52,9 @@ runs t (bs ∷ p) = go (ℕ-discrete (step t bs .number) 0) (runs (step t bs .ta
     go : Dec (step t bs .number ≡ 0) → Steps (shown (step t bs .table)) (shown (play (step t bs .table) p .table))
         → Steps (shown t) (shown (play (step t bs .table) p .table))
     go (yes e) rest =
-        let Leading : Action → Type 0 = λ b. Step (shown t) b (shown (step t bs .table)) in
+        let Leading : Action → Type 0 = λ b. UpTo (timesAsked (actionOf bs)) b t (step t bs .table) in
         let (b, h, _) = both-of Leading Leading (actionOf bs) (taken-leads t bs e) (taken-leads t bs e) in
-        then b h rest
+        in-turn (h .steps) rest
     go (no e) rest = subst (λ (x : Table). Steps (shown x) (shown (play (step t bs .table) p .table))) (refused-stays t bs (omega arith)) rest
 
 -- ---- a fresh table

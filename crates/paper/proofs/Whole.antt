@@ -21,7 +21,7 @@ use Rattle.algorithm.specs.Actions as house
 use Rattle.paper.specs.Paper.{Set, _∈_, State, IsServer, OfServers, Quorums, Action, Reconfig, BecomeLeader, CommitEntry, SendConfig, UpdateTerms, GetEntries, RollbackEntries, ClientRequest, Requires, Step}
 use Rattle.paper.specs.Narrowings.{Narrowed}
 use Rattle.paper.specs.Runs.{OnServers, Alike}
-use Rattle.paper.specs.Shown.{setShown, shown, OfPaper}
+use Rattle.paper.specs.Shown.{setShown, shown, OfPaper, timesAsked, Repeats, never, again, UpTo}
 use Rattle.paper.proofs.Quorum.{most-of, most-some, mask-within, mask-shown}
 use Rattle.paper.proofs.Figures.{none-of, AllFail, none-all}
 use Rattle.paper.proofs.Exactly.{Allowed, both-of, taken-exactly, taken-leads}
@@ -29,6 +29,12 @@ use Rattle.paper.proofs.Near.{step-once}
 
 fine : Fails false
 fine = record { no = tt }
+
+-- what is done once is a step
+one-step : {b : Action} {k : ℕ} {t z : Table} → k ≡ 1 → Repeats b k t z → Step (shown t) b (shown z)
+one-step e never = absurd (omega arith)
+one-step e (again h never) = h
+one-step e (again h (again g more)) = absurd (omega arith)
 
 module _ (t : Table) (sound : Fails (broken t)) where
   abbrev n : ℕ
@@ -91,19 +97,21 @@ module _ (t : Table) (sound : Fails (broken t)) where
 
   -- each action has its bytes, and they are taken
   pub bytes : (b : Action) → OnServers s b → Requires s b → Narrowed (t .rule) s b
-      → (bs : List ℕ) × (step t bs .number ≡ 0) × OfPaper (λ c. c ≡ b) (actionOf bs)
+      → (bs : List ℕ) × (step t bs .number ≡ 0) × OfPaper (λ c. c ≡ b) (actionOf bs) × (timesAsked (actionOf bs) ≡ 1)
   bytes (BecomeLeader i Q) h can narrow =
       let inside : OfServers s Q = quorum-servers i h Q (can .0) in
       let form = by-one (not (within (code Q inside i (can .1)) n)) h (code-within Q inside i (can .1)) in (
         actionBytes 1 i 0 (mask n Q),
         well-formed (actionBytes 1 i 0 (mask n Q)) (form, coded Q inside i (can .1) (BecomeLeader i) can narrow),
         ap (BecomeLeader i) (code-set Q inside i (can .1)),
+        refl,
       )
   bytes (Reconfig i new) h can narrow =
       let form = by-one (not (within (code new (can .0) i (narrow .1)) n)) h (code-within new (can .0) i (narrow .1)) in (
         actionBytes 2 i 0 (mask n new),
         well-formed (actionBytes 2 i 0 (mask n new)) (form, coded new (can .0) i (narrow .1) (Reconfig i) can narrow),
         ap (Reconfig i) (code-set new (can .0) i (narrow .1)),
+        refl,
       )
   bytes (CommitEntry i Q) h can narrow =
       let inside : OfServers s Q = quorum-servers i h Q (can .0) in
@@ -112,19 +120,20 @@ module _ (t : Table) (sound : Fails (broken t)) where
         actionBytes 8 i 0 (mask n Q),
         well-formed (actionBytes 8 i 0 (mask n Q)) (form, coded Q inside x some (CommitEntry i) can narrow),
         ap (CommitEntry i) (code-set Q inside x some),
+        refl,
       )
-  bytes (SendConfig i j) (h, g) can narrow = (actionBytes 3 i j 0, well-formed (actionBytes 3 i j 0) (by-pair h g, (can, narrow)), refl)
-  bytes (UpdateTerms i j) (h, g) can narrow = (actionBytes 4 i j 0, well-formed (actionBytes 4 i j 0) (by-pair h g, (can, narrow)), refl)
-  bytes (ClientRequest i) h can narrow = (actionBytes 5 i 0 0, well-formed (actionBytes 5 i 0 0) (by-one false h fine, (can, narrow)), refl)
-  bytes (GetEntries i j) (h, g) can narrow = (actionBytes 6 i j 0, well-formed (actionBytes 6 i j 0) (by-pair h g, (can, narrow)), refl)
-  bytes (RollbackEntries i j) (h, g) can narrow = (actionBytes 7 i j 0, well-formed (actionBytes 7 i j 0) (by-pair h g, (can, narrow)), refl)
+  bytes (SendConfig i j) (h, g) can narrow = (actionBytes 3 i j 0, well-formed (actionBytes 3 i j 0) (by-pair h g, (can, narrow)), refl, refl)
+  bytes (UpdateTerms i j) (h, g) can narrow = (actionBytes 4 i j 0, well-formed (actionBytes 4 i j 0) (by-pair h g, (can, narrow)), refl, refl)
+  bytes (ClientRequest i) h can narrow = (actionBytes 5 i 0 0, well-formed (actionBytes 5 i 0 0) (by-one false h fine, (can, narrow)), refl, refl)
+  bytes (GetEntries i j) (h, g) can narrow = (actionBytes 6 i j 0, well-formed (actionBytes 6 i j 0) (by-pair h g, (can, narrow)), refl, refl)
+  bytes (RollbackEntries i j) (h, g) can narrow = (actionBytes 7 i j 0, well-formed (actionBytes 7 i j 0) (by-pair h g, (can, narrow)), refl, refl)
 
   -- and they lead where Algorithm 2 leads
   pub goes : (b : Action) → OnServers s b → Requires s b → Narrowed (t .rule) s b → (bs : List ℕ) × (step t bs .number ≡ 0) × Step s b (shown (step t bs .table))
   goes b on can narrow =
-      let (bs, e, named) = bytes b on can narrow in
-      let (c, same, led) = both-of (λ c. c ≡ b) (λ c. Step s c (shown (step t bs .table))) (actionOf bs) named (taken-leads t bs e) in
-      (bs, e, subst (λ (x : Action). Step s x (shown (step t bs .table))) same led)
+      let (bs, e, named, single) = bytes b on can narrow in
+      let (c, same, led) = both-of (λ c. c ≡ b) (λ c. UpTo (timesAsked (actionOf bs)) c t (step t bs .table)) (actionOf bs) named (taken-leads t bs e) in
+      (bs, e, subst (λ (x : Action). Step s x (shown (step t bs .table))) same (one-step (omega (arith, led .some, led .most)) (led .steps)))
 
   -- whatever state narrowed Algorithm 2 goes to, the table goes there too
   pub matched : (b : Action) → OnServers s b → Narrowed (t .rule) s b → (z : State) → Step s b z

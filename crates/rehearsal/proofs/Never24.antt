@@ -19,7 +19,7 @@ use Rattle.algorithm.proofs.Runs.{play-sound, play-append}
 use Rattle.algorithm.proofs.Demands.{not-given-24}
 use Rattle.image.specs.Image.{image}
 use Rattle.buffer.specs.Buffer.{text, digits, decimal, field, fields, Wrote}
-use Rattle.report.specs.Lines.{pair, beside, reply, repliedLine, cutLine, tooLongLine, letter, shownRow, rowLine, marksLine, numbered, repliedLines, rowLines, tableLines, wholeActions, cutLines, playedLines}
+use Rattle.report.specs.Lines.{copies, pair, beside, reply, repliedLine, cutLine, tooLongLine, letter, shownRow, rowLine, marksLine, numbered, repliedLines, rowLines, tableLines, wholeActions, cutLines, playedLines}
 use Rattle.report.proofs.OrderLaws.{flatten-append}
 use Rattle.rehearsal.specs.Programs.{longest, inputLines, printed}
 use Rattle.rehearsal.proofs.PrintedTheorems.{image-lines}
@@ -161,10 +161,16 @@ refused-without n s ne m h =
           (rw parts (before (decimal n) (beside s ++ line) (decimal-plain n) (before (beside s) line (beside-plain s) (before (text "\n") m refl h)))),
     )
 
+copies-plain : (s : Shown) → plain (copies s) ≡ true
+unfolding copies plain
+copies-plain s = cond-elim (λ (l : List ℕ). plain l ≡ true) (eqb (s .copied) 0) (λ _. refl) (λ _. field-plain (s .copied))
+
 reply-without : (a : Answer) → a .number ≢ 24 → (m : List ℕ) → Without m → Without (reply a ++ (text "\n" ++ m))
 unfolding reply plain
 reply-without a ne m h =
-    cond-elim (λ (l : List ℕ). Without (l ++ (text "\n" ++ m))) (eqb (a .number) 0) (λ _. before (text " taken\n") m refl h) (λ _. refused-without (a .number) (a .shown) ne m h)
+    cond-elim (λ (l : List ℕ). Without (l ++ (text "\n" ++ m))) (eqb (a .number) 0)
+    (λ _. before (text " taken" ++ copies (a .shown)) (text "\n" ++ m) (copies-plain (a .shown)) (before (text "\n") m refl h))
+    (λ _. refused-without (a .number) (a .shown) ne m h)
 
 replies-without : (k : ℕ) (rs : List Answer) → ((j : ℕ) → getD (numbers rs) j 0 ≢ 24) → (m : List ℕ) → Without m → Without (flatten (numbered repliedLine k rs) ++ m)
 unfolding numbered flatten repliedLine

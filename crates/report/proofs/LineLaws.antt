@@ -10,17 +10,30 @@ use Rattle.algorithm.specs.Table.{positions, trimmed}
 use Rattle.table.specs.declared.rows.Row.{Row}
 use Rattle.table.proofs.MarkLaws.{trimmed-take}
 use Rattle.buffer.specs.Buffer.{text, decimal, numberRoom, field, fieldRoom, fields, Wrote, WroteShort}
-use Rattle.report.specs.Lines.{pair, beside, reply, repliedLine, cutLine, badSiteLine, tooLongLine, letter, figures, shownRow, marksLine, replyRoom, repliedRoom, rowRoom}
+use Rattle.report.specs.Lines.{pair, beside, reply, repliedLine, cutLine, badSiteLine, tooLongLine, letter, figures, shownRow, marksLine, replyRoom, repliedRoom, rowRoom, copies}
 use Rattle.buffer.proofs.WroteLaws.{wrote-none, exact, then-short}
 use Rattle.buffer.proofs.FieldLaws.{one-field, more-fields}
 
 -- ---- parts of a line
 
-module _ (b b₁ : List ℕ) (at e : ℕ) where
-  pub taken : (a : Answer) (k : ℕ) → k ≡ a .number → k ≡ 0 → Wrote b b₁ at (text " taken") e → WroteShort replyRoom b b₁ at (reply a) e
-  unfolding reply
-  taken a k is h w = record { wrote = rw (eq-eqb (a .number) 0 (sym is ∙ h)) w; short = omega (arith, w .end) }
+pub taken : (b b₁ b₂ : List ℕ) (at d e : ℕ) (a : Answer) (k : ℕ) → k ≡ a .number → k ≡ 0 → Wrote b b₁ at (text " taken") d
+    → WroteShort fieldRoom b₁ b₂ d (copies (a .shown)) e → WroteShort replyRoom b b₂ at (reply a) e
+unfolding reply
+taken b b₁ b₂ at d e a k is h w f =
+    let both = then-short (exact w) f in
+    record { wrote = rw (eq-eqb (a .number) 0 (sym is ∙ h)) (both .wrote); short = omega (arith, both .short) }
 
+-- x is how many were copied as the code has read it
+module _ (s : Shown) (x : ℕ) (is : x ≡ s .copied) (b : List ℕ) (at : ℕ) where
+  pub no-copies : x ≡ 0 → at + fieldRoom ≤ length b → WroteShort fieldRoom b b at (copies s) at
+  unfolding copies
+  no-copies h l = rw (eq-eqb (s .copied) 0 (sym is ∙ h)) (record { wrote = wrote-none b at (omega arith); short = omega arith })
+
+  pub copies-shown : (b₁ : List ℕ) (e : ℕ) → (x ≡ 0 → ⊥) → WroteShort fieldRoom b b₁ at (field x) e → WroteShort fieldRoom b b₁ at (copies s) e
+  unfolding copies
+  copies-shown b₁ e h f = rw (ne-eqb (s .copied) 0 (λ z. h (is ∙ z)), ← is) f
+
+module _ (b b₁ : List ℕ) (at e : ℕ) where
   pub primary : (r : ℕ) → r ≡ 1 → Wrote b b₁ at (text " P") e → WroteShort 2 b b₁ at (letter r) e
   unfolding letter
   primary r h w = rw (eq-eqb r 1 h) (exact w)

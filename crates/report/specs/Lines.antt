@@ -19,13 +19,17 @@ use Rattle.buffer.specs.Buffer.{text, numberRoom, decimal, fieldRoom, field, fi
 unfoldable pub pair : Shown → List ℕ
 pair s = cond (eqb (s .old) 0) [] (fields (s .old ∷ s .new ∷ []))
 
+-- how many entries were copied, where some were
+unfoldable pub copies : Shown → List ℕ
+copies s = cond (eqb (s .copied) 0) [] (field (s .copied))
+
 -- the server that stands in the way, where one is shown; and else two majorities
 unfoldable pub beside : Shown → List ℕ
 beside s = cond (eqb (s .server) 0) (pair s) (text " at" ++ field (s .server))
 
 -- a reply: 0 is taken
 unfoldable pub reply : Answer → List ℕ
-reply a = unlessRefused (a .number) (text " taken") (text " refused" ++ field (a .number) ++ beside (a .shown))
+reply a = unlessRefused (a .number) (text " taken" ++ copies (a .shown)) (text " refused" ++ field (a .number) ++ beside (a .shown))
 
 -- action k has the reply a
 unfoldable pub repliedLine : ℕ → Answer → List ℕ

@@ -8,7 +8,7 @@ ghost use Rattle.algorithm.specs.Run.{answerIn};
 ghost use Rattle.table.specs.Layout.{tableIn};
 ghost use Rattle.table.specs.Slice.{Held};
 ghost use Rattle.buffer.specs.Buffer.{text, field, fieldRoom, fields, WroteShort};
-ghost use Rattle.report.specs.Lines.{pair, beside, reply, replyRoom, letter, figures};
+ghost use Rattle.report.specs.Lines.{pair, beside, reply, replyRoom, letter, figures, copies};
 use algorithm::PRIMARY;
 use algorithm::Position;
 use buffer::put_field;
@@ -46,6 +46,19 @@ fn put_beside(buffer: &mut [u8], at: usize, r: &[u8]) -> usize
     put_field(buffer, end, server)
 }
 
+// How many entries the eight bytes of a reply say were copied, if some were.
+fn put_copies(buffer: &mut [u8], at: usize, r: &[u8]) -> usize
+    requires { ⌜ length (now r) ≡ 8 ⌝ }
+    requires { ⌜ at + fieldRoom ≤ length (now buffer) ⌝ }
+    ensures { λ e. ⌜ WroteShort fieldRoom (now (buffer .entry)) (now (buffer .exit)) at (copies (answerIn (now (r .entry)) .shown)) e ⌝ }
+{
+    let copied = wide(r[2]);
+    if copied == 0 {
+        return at;
+    }
+    put_field(buffer, at, copied)
+}
+
 // A reply by its eight bytes.
 pub(crate) fn put_reply(buffer: &mut [u8], at: usize, r: &[u8]) -> usize
     requires { ⌜ length (now r) ≡ 8 ⌝ }
@@ -54,7 +67,8 @@ pub(crate) fn put_reply(buffer: &mut [u8], at: usize, r: &[u8]) -> usize
 {
     let number = wide(r[0]);
     if number == 0 {
-        return put_word(buffer, at, b" taken");
+        let end = put_word(buffer, at, b" taken");
+        return put_copies(buffer, end, r);
     }
     let end = put_word(buffer, at, b" refused");
     let end = put_field(buffer, end, number);

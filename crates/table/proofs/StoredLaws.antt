@@ -45,5 +45,10 @@ held-stored b t f h = sym (bytes-words b tableWords (h .sized) f) ∙ ap bytes (
 pub holds-unique : (b b' : List ℕ) (t : Table) → ((i : ℕ) → getD b i 0 < 256) → ((i : ℕ) → getD b' i 0 < 256) → Holds b t → Holds b' t → b ≡ b'
 holds-unique b b' t f g h k = held-stored b t f h ∙ sym (held-stored b' t g k)
 
+-- and so are answers that are told beside them
+pub told-unique : {A : Type 0} {r r' v : A} (b b' : List ℕ) (t : Table) → ((i : ℕ) → getD b i 0 < 256) → ((i : ℕ) → getD b' i 0 < 256)
+    → (r ≡ v) × Holds b t → (r' ≡ v) × Holds b' t → (r ≡ r') × (b ≡ b')
+told-unique b b' t f g (e, h) (d, k) = (e ∙ sym d, holds-unique b b' t f g h k)
+
 pub became-unique : (b c c' : List ℕ) (t : Table) → ((i : ℕ) → getD c i 0 < 256) → ((i : ℕ) → getD c' i 0 < 256) → Became b c t → Became b c' t → c ≡ c'
 became-unique b c c' t f g h k = holds-unique c c' t f g (h .holds) (k .holds)

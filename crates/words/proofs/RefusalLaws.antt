@@ -110,6 +110,10 @@ pub each-append : (P : Answer → Type 0) (xs ys : List Refusal) → EachHeld P 
 each-append P [] ys e f = f
 each-append P (r ∷ xs) ys (h, e) f = (h, each-append P xs ys e f)
 
+pub each-map : {P R : Answer → Type 0} (rs : List Refusal) → ((x : Answer) → P x → R x) → EachHeld P rs → EachHeld R rs
+each-map [] f e = tt
+each-map (r ∷ rs) f (h, e) = (λ p. f (answer (r .number) (r .shows)) (h p), each-map rs f e)
+
 pub given-each : (P : Answer → Type 0) (rs : List Refusal) → P (answer 0 nothing) → EachHeld P rs → P (given rs)
 unfolding first firstShown
 given-each P [] none e = none

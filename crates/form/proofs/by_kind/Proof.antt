@@ -18,6 +18,8 @@ by-kind-spec =
     (λ c κs. search (needs, uses-j, uses-set))
     (λ c κs. search (needs, uses-j, uses-set))
     (λ c κs. search (needs, uses-j, uses-set))
+    (λ c κs. search (needs, uses-j, uses-set))
+    (λ c. search (needs, of-kind))
     (λ c. search (needs, of-kind))
     (λ c. search (needs, of-kind))
     (λ c. search (needs, of-kind))

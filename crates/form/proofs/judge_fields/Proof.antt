@@ -12,7 +12,6 @@ judge-fields-spec =
     (λ c κs. search needs)
     (λ c κs. search needs)
     (λ c. search judging depth 9)
-    (λ c. search needs)
     (λ c κs. search needs)
     (λ c. search judging depth 9)
     (λ c. search judging depth 9))

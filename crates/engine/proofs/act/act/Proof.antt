@@ -1,7 +1,7 @@
 -- `engine::act::act` meets its contract. Assumes nothing.
 use borrow.Author.Needs.{needs}
 use Rattle.algorithm.specs.Run.{after}
-use Rattle.engine.proofs.AskedLaws.{elect-i, elect-set, elect-below, reconfigure-i, reconfigure-below, send-i, send-j, spread-i, spread-j, write-i, write-room, fetch-i, fetch-j, fetch-room, roll-back-i, roll-back-some, commit-i, commit-some, did}
+use Rattle.engine.proofs.AskedLaws.{elect-i, elect-set, elect-below, reconfigure-i, reconfigure-below, send-i, send-j, spread-i, spread-j, write-i, write-room, fetch-i, fetch-j, fetch-room, roll-back-i, roll-back-some, commit-i, commit-some, stretch-i, stretch-j, stretch-first, stretch-told, did, quietly}
 use Rattle.engine.proofs.act.act.Statement.{statement}
 use Rattle.engine.proofs.act.act.Tie as tie
 
@@ -27,18 +27,22 @@ act-spec =
     (λ c. search needs)
     (λ c κs. search (needs, commit-i, commit-some))
     (λ c. search needs)
-    (λ c. search (needs, did))
+    (λ c κs. search (needs, stretch-i, stretch-j, stretch-first))
     (λ c. search needs)
-    (λ c. search (needs, did))
+    (λ c. (search (needs, stretch-told), search (needs, did)))
     (λ c. search needs)
-    (λ c. search (needs, did))
+    (λ c. (search (needs, quietly), search (needs, did)))
     (λ c. search needs)
-    (λ c. search (needs, did))
+    (λ c. (search (needs, quietly), search (needs, did)))
     (λ c. search needs)
-    (λ c. search (needs, did))
+    (λ c. (search (needs, quietly), search (needs, did)))
     (λ c. search needs)
-    (λ c. search (needs, did))
+    (λ c. (search (needs, quietly), search (needs, did)))
     (λ c. search needs)
-    (λ c. search (needs, did, c .before .before .roll-back .ensures))
+    (λ c. (search (needs, quietly), search (needs, did)))
     (λ c. search needs)
-    (λ c. search (needs, did, c .before .before .commit .ensures)))
+    (λ c. (search (needs, quietly), search (needs, did)))
+    (λ c. search needs)
+    (λ c. (search (needs, quietly), search (needs, did, c .before .before .roll-back .ensures)))
+    (λ c. search needs)
+    (λ c. (search (needs, quietly), search (needs, did, c .before .before .commit .ensures))))
