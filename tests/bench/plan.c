@@ -1,6 +1,7 @@
 /* plan SERVERS FORM > FILE: a table of that many servers, then a plan for it. The form guided is a fresh table and a fixed guided plan; input the
  * same as an input of the programs, the table's image and as much of the plan as they take; fetches and stretches are a table in which
- * server 1 has a full log and the others have none, and a plan that copies the log to each of them, entry by entry or in one stretch.
+ * server 1 has a full log and the others have none, and a plan that copies the log to each of them, entry by entry or in one stretch;
+ * reconfigures a table under rule 2 and reconfigures that are all taken.
  * The same bytes each time, so that counts of instructions taken on different days and engines can be held against each other. */
 #include <stdio.h>
 #include <stdlib.h>
@@ -63,6 +64,23 @@ static void fill_copies(struct plan *plan, uint32_t n, bool in_stretches)
     }
 }
 
+/* A server that is alone in its set is a majority of it, so that nothing has to be sent between one change and the next; and
+ * rule 2 lets a set follow itself. */
+static void fill_reconfigures(struct plan *plan, uint32_t n)
+{
+    uint8_t opening[3 * ACTION_BYTES];
+    uint8_t replies[3 * REPLY_BYTES];
+    put_action(opening, ELECT, 1, 0, only(1));
+    put_action(opening + ACTION_BYTES, WRITE, 1, 0, 0);
+    put_action(opening + 2 * ACTION_BYTES, COMMIT, 1, 0, only(1));
+    plain_fresh(plan->table, TABLE_BYTES, n, only(1), RULE_2);
+    plain_run(plan->table, TABLE_BYTES, opening, sizeof opening, replies, sizeof replies);
+    plan->count = PLAN_ACTIONS;
+    for (size_t piece = 0; piece < plan->count; piece++) {
+        put_action(plan->actions + ACTION_BYTES * piece, RECONFIGURE, 1, 0, only(1));
+    }
+}
+
 static bool write_plan(const struct plan *plan)
 {
     return fwrite(plan->table, TABLE_BYTES, 1, stdout) == 1
@@ -89,8 +107,10 @@ int main(int count, char **arguments)
         fill_guided(&plan, n);
     } else if (in_stretches || strcmp(form, "fetches") == 0) {
         fill_copies(&plan, n, in_stretches);
+    } else if (strcmp(form, "reconfigures") == 0) {
+        fill_reconfigures(&plan, n);
     } else {
-        fputs("usage: plan SERVERS guided|input|fetches|stretches > FILE, with 1 to 16 servers\n", stderr);
+        fputs("usage: plan SERVERS guided|input|fetches|stretches|reconfigures > FILE, with 1 to 16 servers\n", stderr);
         return EXIT_FAILURE;
     }
     bool written = as_input ? write_input(&plan) : write_plan(&plan);

@@ -6,4 +6,5 @@ pub mod Majorities
 pub mod Meaning
 pub mod Lowest
 pub mod Pairs
+pub mod SheetLaws
 pub mod Worked

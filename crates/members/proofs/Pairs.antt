@@ -54,7 +54,7 @@ leaves {b} {q} {r} x = left (x .old) (omega (arith, x .new .more, subset-ones r 
 
 -- ---- the lowest pair
 
-ones-zero : ones 0 ≡ 0
+pub ones-zero : ones 0 ≡ 0
 unfolding ones
 ones-zero = refl
 

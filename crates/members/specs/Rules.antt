@@ -17,7 +17,7 @@ Meet q r = (s : ℕ) × Member s q × Member s r
 abbrev pub MajoritiesMeet : ℕ → ℕ → Type 0
 MajoritiesMeet a b = (q r : ℕ) → Majority q a → Majority r b → Meet q r
 
--- the least number of shared servers that makes all majorities meet, of a set of a servers and one of b servers
+-- the least number of shared servers that makes all majorities meet, of a set of a servers and one of b servers (that it is: Sheet, Least)
 abbrev pub leastShared : ℕ → ℕ → ℕ
 leastShared a b = (a - 1) / 2 + (b - 1) / 2 + 1
 

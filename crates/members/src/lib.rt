@@ -1,10 +1,12 @@
 // Sets of servers as masks: bit k stands for server k + 1.
 pub mod apart;
+pub mod sheet;
 
 ghost use mathlib.Core.Path.{_≡_};
 ghost use Prim.Native.Nat.{_^_, _<_};
 ghost use Rattle.members.specs.Members.{member, majority, oneApart, within, withNext, lowestUpTo};
 ghost use Rattle.members.specs.Rules.{allMeet, mayFollow};
+use sheet::least_shared;
 
 // Server s is in m.
 pub fn is_member(s: u8, m: u16) -> bool
@@ -37,12 +39,13 @@ pub fn is_majority(q: u16, m: u16) -> bool
     q & m == q && u16::count_ones(m) < 2 * u16::count_ones(q)
 }
 
-// Every majority of a meets every majority of b: the sets share enough servers.
+// Every majority of a meets every majority of b: the sets share as many servers as the manual's sheet asks.
 fn all_meet(a: u16, b: u16) -> bool
     requires { ⌜ (0 < a) × (0 < b) ⌝ }
     ensures { λ r. ⌜ r ≡ allMeet a b ⌝ }
 {
-    (u16::count_ones(a) - 1) / 2 + (u16::count_ones(b) - 1) / 2 + 1 <= u16::count_ones(a & b)
+    let least = least_shared(u16::count_ones(a), u16::count_ones(b));
+    least as u32 <= u16::count_ones(a & b)
 }
 
 // The set `new` may follow `old` under rule 1, which is the number 0, or rule 2.

@@ -6,17 +6,14 @@ use Rattle.members.proofs.all_meet.Statement.{statement}
 use Rattle.members.proofs.all_meet.Tie as tie
 use Rattle.members.proofs.Masks.{ones-pos}
 
-sub-result : tie.Need-sub-result
-sub-result c = omega (arith, ones-pos (c .args .a) (omega arith))
+least-shared-requires : tie.Need-least-shared-requires
+least-shared-requires c κs =
+    let a = c .args .a in
+    let b = c .args .b in
+    omega (arith, ones-pos a (omega arith), ones-le 16 a (omega arith), ones-pos b (omega arith), ones-le 16 b (omega arith))
 
-sub-result-2 : tie.Need-sub-result-2
-sub-result-2 c = omega (arith, ones-pos (c .args .b) (omega arith))
-
-add-result : tie.Need-add-result
-add-result c = omega (arith, ones-le 16 (c .args .a) (omega arith), ones-le 16 (c .args .b) (omega arith))
-
-add-result-2 : tie.Need-add-result-2
-add-result-2 c = omega (arith, ones-le 16 (c .args .a) (omega arith), ones-le 16 (c .args .b) (omega arith))
+returns : tie.Need-returns
+returns c = rw (c .least-shared .ensures)
 
 pub all-meet-spec : {M : Type 1} → statement M
-all-meet-spec = tie.close (tie.spec sub-result sub-result-2 add-result add-result-2 (λ c. search needs))
+all-meet-spec = tie.close (tie.spec least-shared-requires (λ c. search needs) returns)
