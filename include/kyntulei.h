@@ -12,7 +12,8 @@
  * THE TABLE SLICE is 17 rows of 70 unsigned words of 4 bytes, low byte first: 4,760 bytes.
  *   Row 0:                  word 0       n, the number of servers, 1 to 16
  *                           word 1       the rule: 0 for rule 1, 1 for rule 2
- *                           words 2..5   0
+ *                           word 2       the floor, 0 to 16: how many members a new set has at least
+ *                           words 3..5   0
  *                           words 6..69  the marks of positions 1..64: a committed term, or 0
  *   Row s, for server s:    word 0       role: 0 secondary, 1 primary
  *                           word 1       term, up to 1,000,000,000; a primary's is at least 1
@@ -29,7 +30,7 @@
  *   Byte 4                  n, 1 to 16
  *   Byte 5                  0
  *   Byte 6                  the rule: 0 for rule 1, 1 for rule 2
- *   Byte 7                  0
+ *   Byte 7                  the floor, 0 to 16
  *   Bytes 8..11+4n          the contents: an entry for the marks and behind it one for every server, n+1 in all. An
  *                           entry is 2 bytes of offset, where the body starts in the image, and 2 bytes of length
  *   From byte 12+4n         the bodies, in the order of their entries and without gaps
@@ -66,7 +67,8 @@
  *                           server, as sets, low byte first; of all such pairs the one whose old majority is the
  *                           lowest number, and among these the one with the lowest new majority. Else 0
  *
- * REFUSALS. The table keeps every byte it had; of several grounds the one with the smallest number is named.
+ * REFUSALS. The table keeps every byte it had; of several grounds the one with the smallest number is named, but 25 is
+ * looked at where it stands here, directly behind 13 and before 14.
  *    1  the table is broken (looked at before the action, so also for an action of a wrong length)
  *    2  the action's length is not 8, or its kind is not one of the nine
  *    3  a byte that this kind does not name is not 0
@@ -83,6 +85,8 @@
  *   12  reconfigure: the new set leaves i out
  *   13  reconfigure, rule 1: old and new set do not differ in exactly one server; rule 2: some majority of the old set
  *       and some majority of the new one have no server in common. The unchanged set is 13 under rule 1 alone
+ *   25  reconfigure: the new set has fewer members than the floor, also where the old one has fewer still, or the set is
+ *       unchanged (rule 2). A floor of 0 or 1 forbids nothing
  *   14  reconfigure: not more than half of i's set share the version and the term of i's configuration
  *   15  reconfigure: not more than half of i's set are at i's term
  *   16  reconfigure: nothing is marked with i's term, or not more than half of i's set are at that term and have
@@ -110,16 +114,17 @@ extern "C" {
 size_t kyntulei_table_bytes(void);
 
 /* Fills `table`, whatever it held, with n servers that are all secondary at term 0 with an empty log and with one
- * configuration (`set`, version 1, term 0), and with no marks, under rule 1 where `rule` is 0 and rule 2 where it is 1.
- * A table keeps its rule, whatever is played on it.
+ * configuration (`set`, version 1, term 0), and with no marks, under rule 1 where `rule` is 0 and rule 2 where it is 1,
+ * and with the floor `floor`, which `set` itself may be below. A table keeps its rule and its floor, whatever is played
+ * on it.
  *
  * Answers 0 when filled. Otherwise nothing is written, and the answer is, asked in this order:
- *    1  table_len is not kyntulei_table_bytes(), or rule is above 1
+ *    1  table_len is not kyntulei_table_bytes(), rule is above 1, or floor is above 16
  *   32  n is not 1 to 16
  *    5  set is empty or reaches past server n (all 32 bits count) */
-uint32_t kyntulei_fresh(uint8_t *table, size_t table_len, uint32_t n, uint32_t set, uint32_t rule);
+uint32_t kyntulei_fresh(uint8_t *table, size_t table_len, uint32_t n, uint32_t set, uint32_t rule, uint32_t floor);
 
-/* Judges one action and, if it is taken, alters `table` accordingly. Answers 0 or a refusal of 1 to 24, and sets *reply,
+/* Judges one action and, if it is taken, alters `table` accordingly. Answers 0 or a refusal of 1 to 25, and sets *reply,
  * whatever the answer, to the whole reply as one number.
  *
  * Every length is allowed: table_len other than kyntulei_table_bytes() gives 1, and else action_len other than 8
@@ -146,7 +151,8 @@ uint64_t kyntulei_run(uint8_t *table, size_t table_len, const uint8_t *actions, 
  * Answers 0 when filled. Otherwise neither `table` nor *end is written, and the answer is, asked in this order:
  *    1  table_len is not kyntulei_table_bytes()
  *   30  image_len is less than 8
- *   31  the image does not begin with SITE, byte 5 or 7 is not 0, or the rule in byte 6 is above 1
+ *   31  the image does not begin with SITE, byte 5 is not 0, the rule in byte 6 is above 1, or the floor in byte 7 is
+ *       above 16
  *   32  n is not 1 to 16
  *   33  image_len ends within the contents or within a body; or an offset is not where the body before it ends (12+4n
  *       for the marks); or the marks' length is not 4 times 0 to 64, or a server's not 16 more than such a number

@@ -52,7 +52,7 @@ static void fill_fresh(const struct engine *engine, const struct plan *plan, str
 {
     uint32_t n = word(plan->start, SERVERS);
     for (size_t call = 0; call < CALLS; call++) {
-        playing->replies[call] = (uint8_t)engine->fresh(playing->table, TABLE_BYTES, n, all_servers(n), RULE_1);
+        playing->replies[call] = (uint8_t)engine->fresh(playing->table, TABLE_BYTES, n, all_servers(n), RULE_1, 0);
     }
 }
 

@@ -42,7 +42,7 @@ static void fill_guided(struct plan *plan, uint32_t n)
 {
     static uint8_t played[TABLE_BYTES];
     struct source source = {PLAN_SEED};
-    plain_fresh(plan->table, TABLE_BYTES, n, all_servers(n), RULE_1);
+    plain_fresh(plan->table, TABLE_BYTES, n, all_servers(n), RULE_1, 0);
     memcpy(played, plan->table, TABLE_BYTES);
     plan->count = PLAN_ACTIONS;
     draw_guided_plan(&source, &even_temper, played, plan->count, plan->actions);
@@ -50,7 +50,7 @@ static void fill_guided(struct plan *plan, uint32_t n)
 
 static void fill_copies(struct plan *plan, uint32_t n, bool in_stretches)
 {
-    plain_fresh(plan->table, TABLE_BYTES, n, all_servers(n), RULE_1);
+    plain_fresh(plan->table, TABLE_BYTES, n, all_servers(n), RULE_1, 0);
     uint8_t *full = plan->table + row_start(1);
     for (size_t index = 0; index < MOST_ENTRIES; index++) {
         put_word(full, ENTRIES + index, 1 + (uint32_t)index);
@@ -73,7 +73,7 @@ static void fill_reconfigures(struct plan *plan, uint32_t n)
     put_action(opening, ELECT, 1, 0, only(1));
     put_action(opening + ACTION_BYTES, WRITE, 1, 0, 0);
     put_action(opening + 2 * ACTION_BYTES, COMMIT, 1, 0, only(1));
-    plain_fresh(plan->table, TABLE_BYTES, n, only(1), RULE_2);
+    plain_fresh(plan->table, TABLE_BYTES, n, only(1), RULE_2, 0);
     plain_run(plan->table, TABLE_BYTES, opening, sizeof opening, replies, sizeof replies);
     plan->count = PLAN_ACTIONS;
     for (size_t piece = 0; piece < plan->count; piece++) {

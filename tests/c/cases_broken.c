@@ -64,6 +64,13 @@ static void break_row_0(const struct engine *engine)
     broken_word(engine, 0, RULE, UINT32_MAX);
     every_byte_of(engine, 0, RULE, RULE_1);
     every_byte_of(engine, 0, RULE, RULE_2);
+    sound_word(engine, 0, FLOOR, 1);
+    sound_word(engine, 0, FLOOR, 5);
+    sound_word(engine, 0, FLOOR, MOST_SERVERS);
+    broken_word(engine, 0, FLOOR, MOST_SERVERS + 1);
+    broken_word(engine, 0, FLOOR, UINT32_MAX);
+    every_byte_of(engine, 0, FLOOR, 0);
+    every_byte_of(engine, 0, FLOOR, MOST_SERVERS);
     for (size_t column = SPARE; column < MARKS; column++) {
         broken_word(engine, 0, column, 1);
         every_byte_of(engine, 0, column, 0);

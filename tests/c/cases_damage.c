@@ -13,7 +13,8 @@ static uint32_t reply_to_byte(size_t at, uint32_t value)
     if (at < OPENING_BYTES) {
         bool is_number = value >= 1 && value <= MOST_SERVERS;
         bool is_rule = at == RULE_AT && value <= RULE_2;
-        return is_rule ? 0 : at != SERVERS_AT ? 31 : is_number ? 33 : 32;
+        bool is_floor = at == FLOOR_AT && value <= MOST_SERVERS;
+        return is_rule || is_floor ? 0 : at != SERVERS_AT ? 31 : is_number ? 33 : 32;
     }
     if (at < first_body_at(4)) {
         return 33;
@@ -37,11 +38,14 @@ static uint32_t reply_to_byte(size_t at, uint32_t value)
     }
 }
 
-/* Where the rule, or a byte of a body that is not refused, stands in the table. */
+/* Where the rule, the floor, or a byte of a body that is not refused, stands in the table. */
 static size_t place_in_table(size_t at)
 {
     if (at == RULE_AT) {
         return 4 * RULE;
+    }
+    if (at == FLOOR_AT) {
+        return 4 * FLOOR;
     }
     size_t in_bodies = at - first_body_at(4);
     size_t field = in_bodies % LOG_AT;
@@ -106,6 +110,7 @@ static struct scene full_scene(const struct engine *engine, uint32_t n)
 {
     struct scene scene = fresh_scene(engine, n, 1);
     give_rule(&scene, RULE_2);
+    give_floor(&scene, MOST_SERVERS);
     fill_figures(&scene, MOST_ENTRIES, MOST_ENTRIES);
     return scene;
 }

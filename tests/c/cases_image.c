@@ -10,10 +10,10 @@ static const uint8_t whole_case[92] = {
     0, 0, 7, 0, 0, 0, 0, 0, 1, 0, 0, 0, 0, 0, 0, 0, 0, 0, 7, 0, 0, 0, 0, 0, 1, 0, 0, 0, 0, 0, 0, 0,
 };
 
-/* Every byte of a figure different: rule 2; marks 0x0a0b0c0d, none and 3; server 1 with two entries, server 2 with
+/* Every byte of a figure different: rule 2; a floor of 5; marks 0x0a0b0c0d, none and 3; server 1 with two entries, server 2 with
  * none. */
 static const uint8_t two_servers[72] = {
-    'S', 'I', 'T', 'E', 2, 0, 1, 0, 20, 0, 12, 0, 32, 0, 24, 0, 56, 0, 16, 0,
+    'S', 'I', 'T', 'E', 2, 0, 1, 5, 20, 0, 12, 0, 32, 0, 24, 0, 56, 0, 16, 0,
     0x0d, 0x0c, 0x0b, 0x0a, 0, 0, 0, 0, 3, 0, 0, 0,
     1, 0, 3, 0, 4, 3, 2, 1, 8, 7, 6, 5, 12, 11, 10, 9, 16, 15, 14, 13, 20, 19, 18, 17,
     0, 0, 2, 0, 24, 23, 22, 21, 28, 27, 26, 25, 32, 31, 30, 29,
@@ -28,6 +28,7 @@ static void literal_images(const struct engine *engine)
 
     scene = fresh_scene(engine, 2, 3);
     give_rule(&scene, RULE_2);
+    give_floor(&scene, 5);
     give_role(&scene, 1, PRIMARY, 0x01020304);
     give_configuration(&scene, 1, 3, 0x05060708, 0x090a0b0c);
     GIVE_LOG(&scene, 1, 0x0d0e0f10, 0x11121314);
@@ -57,6 +58,8 @@ static void fresh_images(const struct engine *engine)
             struct scene scene = fresh_scene(engine, n, sets[which]);
             good_image(&scene, 12 + 20 * n, name);
             give_rule(&scene, RULE_2);
+            good_image(&scene, 12 + 20 * n, name);
+            give_floor(&scene, n);
             good_image(&scene, 12 + 20 * n, name);
         }
     }
@@ -107,10 +110,10 @@ static void opening_bytes(const struct engine *engine)
         is_bad_site(engine, image, OPENING_BYTES, 32, "n outside 1 to 16 and no contents");
         for (size_t at = 0; at < OPENING_BYTES; at++) {
             if (at != SERVERS_AT) {
-                image[at] ^= 2;
+                image[at] ^= 32;
                 is_bad_site(engine, image, sizeof image, 31, "31 before 32");
                 is_bad_site(engine, image, OPENING_BYTES, 31, "31 before 32 and no contents");
-                image[at] ^= 2;
+                image[at] ^= 32;
             }
         }
     }

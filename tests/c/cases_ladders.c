@@ -1,5 +1,5 @@
 /* For each kind one action that breaks as many conditions as can be broken at once. They are mended one after
- * another, and the reply has to climb through all numbers of the kind up to taken. */
+ * another, and the reply has to climb through all numbers of the kind up to taken; reconfigure's 25 stands between 13 and 14. */
 #include "scene.h"
 
 static const uint32_t above_n = 9;
@@ -54,6 +54,7 @@ static void climb_elect(const struct engine *engine)
 static void climb_reconfigure(const struct engine *engine)
 {
     struct scene scene = fresh_scene(engine, 4, 7);
+    give_floor(&scene, 5);
     give_role(&scene, 1, SECONDARY, 2);
     give_configuration(&scene, 1, 7, 1000000000, 3);
     struct bytes8 action = act(0, above_n, 0, 0);
@@ -70,6 +71,8 @@ static void climb_reconfigure(const struct engine *engine)
     refused(&scene, act(RECONFIGURE, 1, 0, 11), 13, "reconfigure with one swapped");
     refused(&scene, act(RECONFIGURE, 1, 0, 7), 13, "reconfigure to the same set");
     action = act(RECONFIGURE, 1, 0, 15);
+    refused(&scene, action, 25, "reconfigure to fewer than the floor, with one added");
+    give_floor(&scene, 4);
     refused(&scene, action, 14, "reconfigure with a configuration of one's own");
     give_configuration(&scene, 3, 7, 999999999, 3);
     refused(&scene, action, 15, "reconfigure with a term of one's own");

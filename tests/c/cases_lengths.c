@@ -32,8 +32,8 @@ static void table_of_length(const struct engine *engine, size_t length)
     memset(replies, CANARY, sizeof replies);
     uint64_t played = engine->run(lent, length, action.byte, ACTION_BYTES, replies, sizeof replies);
     check(played == 1 && reply_at(replies, 0) == 1, "run on a table of %zu bytes", length);
-    check(engine->fresh(lent, length, 3, 7, RULE_2) == 1, "fresh in %zu bytes", length);
-    check(engine->fresh(lent, length, 0, 0, 2) == 1, "fresh of nothing in %zu bytes", length);
+    check(engine->fresh(lent, length, 3, 7, RULE_2, 2) == 1, "fresh in %zu bytes", length);
+    check(engine->fresh(lent, length, 0, 0, 2, 17) == 1, "fresh of nothing in %zu bytes", length);
     check(memcmp(lent, before, length) == 0, "a table of %zu bytes stays", length);
     free(lent);
     free(before);
@@ -48,7 +48,7 @@ static void tables_of_other_lengths(const struct engine *engine)
     struct bytes8 action = ready_action(WRITE);
     uint64_t reply;
     check(engine->step(NULL, 0, action.byte, ACTION_BYTES, &reply) == 1, "step on no table");
-    check(engine->fresh(NULL, 0, 3, 7, RULE_1) == 1, "fresh in no table");
+    check(engine->fresh(NULL, 0, 3, 7, RULE_1, 0) == 1, "fresh in no table");
     check(engine->table_bytes() == 4760, "a table has 4760 bytes");
 }
 
@@ -136,7 +136,8 @@ static void runs_on_broken_tables(const struct engine *engine)
     check(memcmp(scene.table, before.table, TABLE_BYTES) == 0, "run on a broken table leaves it");
 }
 
-static void fresh_under(const struct engine *engine, uint32_t rule, uint32_t n, uint32_t set, uint32_t number)
+static void fresh_under(const struct engine *engine, uint32_t rule, uint32_t floor, uint32_t n, uint32_t set,
+                        uint32_t number)
 {
     struct scene scene = {engine, {0}};
     memset(scene.table, CANARY, TABLE_BYTES);
@@ -144,21 +145,28 @@ static void fresh_under(const struct engine *engine, uint32_t rule, uint32_t n, 
     if (number == 0) {
         after = fresh_scene(engine, n, set);
         give_rule(&after, rule);
+        give_floor(&after, floor);
     }
-    uint32_t reply = engine->fresh(scene.table, TABLE_BYTES, n, set, rule);
+    uint32_t reply = engine->fresh(scene.table, TABLE_BYTES, n, set, rule, floor);
     bool as_meant = memcmp(scene.table, after.table, TABLE_BYTES) == 0;
-    check(reply == number, "fresh of %u servers with set %u, rule %u, replied %u", n, set, rule, reply);
-    check(as_meant, "fresh of %u servers with set %u, rule %u: table", n, set, rule);
+    check(reply == number, "fresh of %u servers with set %u, rule %u, floor %u, replied %u", n, set, rule, floor, reply);
+    check(as_meant, "fresh of %u servers with set %u, rule %u, floor %u: table", n, set, rule, floor);
 }
 
-/* Under each rule; under a number that is none 1 comes first. */
+/* Under each rule and with each floor; with a number that is neither 1 comes first. */
 static void fresh_replies(const struct engine *engine, uint32_t n, uint32_t set, uint32_t number)
 {
-    fresh_under(engine, RULE_1, n, set, number);
-    fresh_under(engine, RULE_2, n, set, number);
+    for (uint32_t floor = 0; floor <= MOST_SERVERS; floor++) {
+        fresh_under(engine, RULE_1, floor, n, set, number);
+        fresh_under(engine, RULE_2, floor, n, set, number);
+    }
     const uint32_t no_rules[] = {2, 3, 256, 257, 65536, UINT32_MAX};
     for (size_t which = 0; which < sizeof no_rules / sizeof *no_rules; which++) {
-        fresh_under(engine, no_rules[which], n, set, 1);
+        fresh_under(engine, no_rules[which], 0, n, set, 1);
+    }
+    const uint32_t no_floors[] = {17, 18, 32, 256, 257, 65536, UINT32_MAX};
+    for (size_t which = 0; which < sizeof no_floors / sizeof *no_floors; which++) {
+        fresh_under(engine, RULE_2, no_floors[which], n, set, 1);
     }
 }
 

@@ -1,4 +1,5 @@
-/* Which set may follow which, under each rule, and the pair of majorities that refusal 13 shows under rule 2. */
+/* Which set may follow which, under each rule and with each floor, and the pair of majorities that refusal 13 shows under
+ * rule 2. */
 #include "scene.h"
 
 /* A primary 1 of term 1 that may reconfigure but for its sets: the others share its term, configuration and entry. */
@@ -94,9 +95,67 @@ static void widest_sets(const struct engine *engine)
     refused(&scene, act(RECONFIGURE, 1, 0, 0x0001), with_pair(0x03fe, 0x0001), "rule 2: sixteen servers to one");
 }
 
+/* The size of the new set decides, whatever the old one's is; 0 and 1 forbid nothing. */
+static void every_floor(const struct engine *engine)
+{
+    for (uint32_t floor = 0; floor <= MOST_SERVERS; floor++) {
+        for (uint32_t old = 1; old <= all_servers(5); old += 2) {
+            for (uint32_t server = 2; server <= 5; server++) {
+                uint32_t new = old ^ only(server);
+                struct scene scene = leading_scene(engine, 5, old, RULE_1);
+                give_floor(&scene, floor);
+                struct scene after = scene;
+                bool reaches = (uint32_t)__builtin_popcount(new) >= floor;
+                if (reaches) {
+                    give_configuration(&after, 1, new, 2, 1);
+                }
+                replied(&scene, act(RECONFIGURE, 1, 0, new), reaches ? 0 : 25, &after, "each floor and change of five servers");
+            }
+        }
+    }
+}
+
+static void floors_in_their_place(const struct engine *engine)
+{
+    struct scene scene = leading_scene(engine, 5, 7, RULE_2);
+    give_floor(&scene, 4);
+    refused(&scene, act(RECONFIGURE, 1, 0, 6), 12, "floor 4: 12 before 25");
+    refused(&scene, act(RECONFIGURE, 1, 0, 11), with_pair(5, 10), "floor 4: 13 before 25");
+    refused(&scene, act(RECONFIGURE, 1, 0, 7), 25, "floor 4: the unchanged set under rule 2");
+    give_configuration(&scene, 2, 7, 2, 1);
+    give_configuration(&scene, 3, 7, 2, 1);
+    refused(&scene, act(RECONFIGURE, 1, 0, 7), 25, "floor 4: 25 before 14");
+    give_floor(&scene, 3);
+    refused(&scene, act(RECONFIGURE, 1, 0, 7), 14, "floor 3: 14");
+}
+
+/* A first set, an election, a configuration sent and a commit below the floor. */
+static void floors_not_looked_at(const struct engine *engine)
+{
+    struct scene scene = fresh_scene(engine, 3, 3);
+    give_floor(&scene, MOST_SERVERS);
+    struct scene after = scene;
+    give_role(&after, 1, PRIMARY, 1);
+    give_role(&after, 2, SECONDARY, 1);
+    give_configuration(&after, 1, 3, 1, 1);
+    taken(&scene, act(ELECT, 1, 0, 3), &after, "floor 16: elect");
+    give_configuration(&after, 2, 3, 1, 1);
+    taken(&scene, act(SEND, 1, 2, 0), &after, "floor 16: send");
+    GIVE_LOG(&after, 1, 1);
+    taken(&scene, act(WRITE, 1, 0, 0), &after, "floor 16: write");
+    GIVE_LOG(&after, 2, 1);
+    taken(&scene, act(FETCH, 2, 1, 0), &after, "floor 16: fetch");
+    give_mark(&after, 1, 1);
+    taken(&scene, act(COMMIT, 1, 0, 3), &after, "floor 16: commit");
+    refused(&scene, act(RECONFIGURE, 1, 0, 7), 25, "floor 16: a set that grows");
+}
+
 void check_rules(const struct engine *engine)
 {
     worked_changes(engine);
     every_change(engine);
     widest_sets(engine);
+    every_floor(engine);
+    floors_in_their_place(engine);
+    floors_not_looked_at(engine);
 }

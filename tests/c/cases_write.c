@@ -61,6 +61,7 @@ static void fresh_and_full_tables(const struct engine *engine)
                 fill_figures(&scene, counts[log], counts[mark]);
                 writes_image(engine, &scene, name);
                 give_rule(&scene, RULE_2);
+                give_floor(&scene, MOST_SERVERS);
                 writes_image(engine, &scene, name);
             }
         }
@@ -80,6 +81,9 @@ static void broken_tables(const struct engine *engine)
     give_rule(&scene, 2);
     writes(engine, scene.table, TABLE_BYTES, MOST_BUFFER_BYTES, 1, &image, "write of a table with no rule");
     give_rule(&scene, RULE_2);
+    give_floor(&scene, MOST_SERVERS + 1);
+    writes(engine, scene.table, TABLE_BYTES, MOST_BUFFER_BYTES, 1, &image, "write of a table with no floor");
+    give_floor(&scene, MOST_SERVERS);
     give_role(&scene, 2, 2, 1);
     writes(engine, scene.table, TABLE_BYTES, MOST_BUFFER_BYTES, 1, &image, "write of a broken table");
     writes(engine, scene.table, TABLE_BYTES, 0, 1, &image, "write of a broken table into no buffer");

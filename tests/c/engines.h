@@ -8,7 +8,7 @@
 struct engine {
     const char *name;
     size_t (*table_bytes)(void);
-    uint32_t (*fresh)(uint8_t *table, size_t table_len, uint32_t n, uint32_t set, uint32_t rule);
+    uint32_t (*fresh)(uint8_t *table, size_t table_len, uint32_t n, uint32_t set, uint32_t rule, uint32_t floor);
     uint32_t (*step)(uint8_t *table, size_t table_len, const uint8_t *action, size_t action_len,
                      uint64_t *reply);
     uint64_t (*run)(uint8_t *table, size_t table_len, const uint8_t *actions, size_t actions_len,

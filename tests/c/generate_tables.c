@@ -4,8 +4,8 @@
 
 #include "plain.h"
 
-/* Figures are drawn close above a floor, so that equal and neighbouring ones meet often. */
-struct floors {
+/* Figures are drawn close above a base, so that equal and neighbouring ones meet often. */
+struct bases {
     uint32_t n;
     uint32_t width;
     uint32_t term;
@@ -16,15 +16,15 @@ struct floors {
     uint32_t trunk[MOST_ENTRIES];
 };
 
-static uint32_t draw_floor(struct source *source)
+static uint32_t draw_base(struct source *source)
 {
-    const uint32_t floors[] = {0, 0, 1, 2, 7, 1000, CEILING - 3, CEILING - 1};
-    return floors[below(source, sizeof floors / sizeof *floors)];
+    const uint32_t bases[] = {0, 0, 1, 2, 7, 1000, CEILING - 3, CEILING - 1};
+    return bases[below(source, sizeof bases / sizeof *bases)];
 }
 
-static uint32_t draw_above(struct source *source, uint32_t floor, uint32_t width, uint32_t least)
+static uint32_t draw_above(struct source *source, uint32_t base, uint32_t width, uint32_t least)
 {
-    uint32_t value = floor + below(source, width);
+    uint32_t value = base + below(source, width);
     if (value > CEILING) {
         return CEILING;
     }
@@ -37,65 +37,75 @@ static uint32_t draw_set(struct source *source, uint32_t n)
     return set == 0 ? only(between(source, 1, n)) : set;
 }
 
-static struct floors draw_floors(struct source *source)
+static struct bases draw_bases(struct source *source)
 {
-    struct floors floors = {.n = between(source, 1, MOST_SERVERS)};
-    floors.width = between(source, 1, 3);
-    floors.term = draw_floor(source);
-    floors.version = draw_floor(source);
-    floors.config_term = chance(source, 60) ? floors.term : draw_floor(source);
-    floors.set = draw_set(source, floors.n);
-    floors.trunk_length = chance(source, 80) ? below(source, 8) : between(source, 60, MOST_ENTRIES);
+    struct bases bases = {.n = between(source, 1, MOST_SERVERS)};
+    bases.width = between(source, 1, 3);
+    bases.term = draw_base(source);
+    bases.version = draw_base(source);
+    bases.config_term = chance(source, 60) ? bases.term : draw_base(source);
+    bases.set = draw_set(source, bases.n);
+    bases.trunk_length = chance(source, 80) ? below(source, 8) : between(source, 60, MOST_ENTRIES);
     for (size_t index = 0; index < MOST_ENTRIES; index++) {
-        floors.trunk[index] = draw_above(source, floors.term, floors.width, 1);
+        bases.trunk[index] = draw_above(source, bases.term, bases.width, 1);
     }
-    return floors;
+    return bases;
 }
 
 /* Logs that leave one trunk here and there, as logs of one store do. */
-static void draw_log(struct source *source, const struct floors *floors, uint8_t *row)
+static void draw_log(struct source *source, const struct bases *bases, uint8_t *row)
 {
-    uint32_t length = floors->trunk_length;
+    uint32_t length = bases->trunk_length;
     if (chance(source, 40)) {
         length = below(source, length + 1);
     }
     uint32_t leaves_at = chance(source, 30) ? below(source, length + 1) : MOST_ENTRIES;
     put_word(row, LOG_LENGTH, length);
     for (size_t index = 0; index < length; index++) {
-        uint32_t own = draw_above(source, floors->term, floors->width, 1);
-        put_word(row, ENTRIES + index, index < leaves_at ? floors->trunk[index] : own);
+        uint32_t own = draw_above(source, bases->term, bases->width, 1);
+        put_word(row, ENTRIES + index, index < leaves_at ? bases->trunk[index] : own);
     }
 }
 
-static void draw_server(struct source *source, const struct floors *floors, uint8_t *row)
+static void draw_server(struct source *source, const struct bases *bases, uint8_t *row)
 {
     uint32_t role = chance(source, 40) ? PRIMARY : SECONDARY;
     put_word(row, ROLE, role);
-    put_word(row, TERM, draw_above(source, floors->term, floors->width, role == PRIMARY ? 1 : 0));
-    put_word(row, SET, chance(source, 70) ? floors->set : draw_set(source, floors->n));
-    put_word(row, VERSION, draw_above(source, floors->version, floors->width, 1));
-    put_word(row, CONFIG_TERM, draw_above(source, floors->config_term, floors->width, 0));
-    draw_log(source, floors, row);
+    put_word(row, TERM, draw_above(source, bases->term, bases->width, role == PRIMARY ? 1 : 0));
+    put_word(row, SET, chance(source, 70) ? bases->set : draw_set(source, bases->n));
+    put_word(row, VERSION, draw_above(source, bases->version, bases->width, 1));
+    put_word(row, CONFIG_TERM, draw_above(source, bases->config_term, bases->width, 0));
+    draw_log(source, bases, row);
 }
 
-static void draw_marks(struct source *source, const struct floors *floors, uint8_t *table)
+static void draw_marks(struct source *source, const struct bases *bases, uint8_t *table)
 {
-    uint32_t end = chance(source, 60) ? floors->trunk_length : MOST_ENTRIES;
+    uint32_t end = chance(source, 60) ? bases->trunk_length : MOST_ENTRIES;
     uint32_t dense = below(source, 100);
     uint32_t agreeing = between(source, 40, 100);
     for (size_t index = 0; index < end; index++) {
         if (chance(source, dense)) {
             bool on_trunk = chance(source, agreeing);
-            put_word(table, MARKS + index, on_trunk ? floors->trunk[index] : draw_above(source, floors->term, 3, 0));
+            put_word(table, MARKS + index, on_trunk ? bases->trunk[index] : draw_above(source, bases->term, 3, 0));
         }
     }
+}
+
+/* Mostly one that forbids nothing, or else one that the table's sets come near to; now and then one above them all. */
+static uint32_t draw_floor(struct source *source, uint32_t n)
+{
+    if (chance(source, 60)) {
+        return below(source, 2);
+    }
+    return chance(source, 75) ? between(source, 1, n) : between(source, 1, MOST_SERVERS);
 }
 
 void draw_fresh_table(struct source *source, uint8_t *table)
 {
     uint32_t n = between(source, 1, MOST_SERVERS);
     uint32_t set = chance(source, 50) ? all_servers(n) : (uint32_t)draw(source) & all_servers(n);
-    plain_fresh(table, TABLE_BYTES, n, set == 0 ? 1 : set, between(source, RULE_1, RULE_2));
+    uint32_t rule = between(source, RULE_1, RULE_2);
+    plain_fresh(table, TABLE_BYTES, n, set == 0 ? 1 : set, rule, draw_floor(source, n));
 }
 
 void lift_counters(struct source *source, uint8_t *table)
@@ -112,14 +122,15 @@ void lift_counters(struct source *source, uint8_t *table)
 
 void draw_odd_table(struct source *source, uint8_t *table)
 {
-    struct floors floors = draw_floors(source);
+    struct bases bases = draw_bases(source);
     memset(table, 0, TABLE_BYTES);
-    put_word(table, SERVERS, floors.n);
+    put_word(table, SERVERS, bases.n);
     put_word(table, RULE, between(source, RULE_1, RULE_2));
-    for (uint32_t server = 1; server <= floors.n; server++) {
-        draw_server(source, &floors, table + row_start(server));
+    put_word(table, FLOOR, draw_floor(source, bases.n));
+    for (uint32_t server = 1; server <= bases.n; server++) {
+        draw_server(source, &bases, table + row_start(server));
     }
-    draw_marks(source, &floors, table);
+    draw_marks(source, &bases, table);
 }
 
 /* A column that says something in a row of this log length. */
@@ -143,7 +154,7 @@ void disturb_table(struct source *source, uint8_t *table)
     }
     if (chance(source, 5)) {
         row = table;
-        column = RULE;
+        column = chance(source, 50) ? RULE : FLOOR;
     }
     uint32_t value = word(row, column);
     switch (below(source, 4)) {
@@ -157,7 +168,7 @@ void disturb_table(struct source *source, uint8_t *table)
         value = word(model, column);
         break;
     default:
-        value = draw_floor(source);
+        value = draw_base(source);
         break;
     }
     put_word(row, column, value);

@@ -30,6 +30,7 @@ size_t image_of(const uint8_t *table, uint8_t *image)
     memcpy(image, opening, OPENING_BYTES);
     image[SERVERS_AT] = (uint8_t)n;
     image[RULE_AT] = (uint8_t)word(table, RULE);
+    image[FLOOR_AT] = (uint8_t)word(table, FLOOR);
     size_t offset = first_body_at(n);
     for (uint32_t body = 0; body <= n; body++) {
         size_t length = body == 0 ? put_marks(table, image + offset)

@@ -10,6 +10,7 @@
 enum {
     SERVERS_AT = 4,
     RULE_AT = 6,
+    FLOOR_AT = 7,
     OPENING_BYTES = 8,
     CONTENTS_ENTRY_BYTES = 4,
     MARK_BYTES = 4,

@@ -30,7 +30,7 @@ static bool names_bad_site(uint32_t feature)
 
 static bool is_feature(uint32_t feature)
 {
-    return (feature >= NO_ACTION && feature <= MARKED_OTHERWISE) || (feature >= SHORT_IMAGE && feature < FEATURES);
+    return (feature >= NO_ACTION && feature <= BELOW_FLOOR) || (feature >= SHORT_IMAGE && feature < FEATURES);
 }
 
 static const char *name_of(uint32_t feature)

@@ -19,7 +19,7 @@ enum {
 };
 
 /* Row 0. */
-enum { SERVERS = 0, RULE = 1, SPARE = 2, MARKS = 6 };
+enum { SERVERS = 0, RULE = 1, FLOOR = 2, SPARE = 3, MARKS = 6 };
 
 /* The rules by their numbers, in a table and in its image. */
 enum { RULE_1, RULE_2 };

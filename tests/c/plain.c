@@ -61,7 +61,8 @@ bool plain_is_whole(const uint8_t *table, size_t table_len)
         return false;
     }
     uint32_t n = word(table, SERVERS);
-    if (n < 1 || n > MOST_SERVERS || word(table, RULE) > RULE_2 || !marks_are_whole(table)) {
+    if (n < 1 || n > MOST_SERVERS || word(table, RULE) > RULE_2 || word(table, FLOOR) > MOST_SERVERS
+        || !marks_are_whole(table)) {
         return false;
     }
     for (uint32_t server = 1; server <= n; server++) {
@@ -77,9 +78,9 @@ size_t plain_table_bytes(void)
     return TABLE_BYTES;
 }
 
-uint32_t plain_fresh(uint8_t *table, size_t table_len, uint32_t n, uint32_t set, uint32_t rule)
+uint32_t plain_fresh(uint8_t *table, size_t table_len, uint32_t n, uint32_t set, uint32_t rule, uint32_t floor)
 {
-    if (table_len != TABLE_BYTES || rule > RULE_2) {
+    if (table_len != TABLE_BYTES || rule > RULE_2 || floor > MOST_SERVERS) {
         return BROKEN_TABLE;
     }
     if (n < 1 || n > MOST_SERVERS) {
@@ -91,6 +92,7 @@ uint32_t plain_fresh(uint8_t *table, size_t table_len, uint32_t n, uint32_t set,
     memset(table, 0, TABLE_BYTES);
     put_word(table, SERVERS, n);
     put_word(table, RULE, rule);
+    put_word(table, FLOOR, floor);
     for (uint32_t server = 1; server <= n; server++) {
         uint8_t *row = table + row_start(server);
         put_word(row, SET, set);

@@ -8,7 +8,7 @@
 static bool opens_rightly(const uint8_t *image)
 {
     return memcmp(image, "SITE", SERVERS_AT) == 0
-        && (image[RULE_AT - 1] | image[RULE_AT + 1]) == 0 && image[RULE_AT] <= RULE_2;
+        && image[RULE_AT - 1] == 0 && image[RULE_AT] <= RULE_2 && image[FLOOR_AT] <= MOST_SERVERS;
 }
 
 static bool is_length_of(uint32_t body, size_t length)
@@ -62,6 +62,7 @@ static bool read_bodies(const uint8_t *image, uint32_t n, uint8_t *table)
     memset(table, 0, TABLE_BYTES);
     put_word(table, SERVERS, n);
     put_word(table, RULE, image[RULE_AT]);
+    put_word(table, FLOOR, image[FLOOR_AT]);
     bool right = true;
     for (uint32_t body = 0; body <= n; body++) {
         const uint8_t *entry = image + contents_entry_at(body);

@@ -183,6 +183,9 @@ static uint32_t judge_reconfigure(const uint8_t *table, const struct action *act
     if (!may_follow(table, set, action->set)) {
         return NO_SUCH_CHANGE;
     }
+    if ((uint32_t)__builtin_popcount(action->set) < word(table, FLOOR)) {
+        return BELOW_FLOOR;
+    }
     if (!reaches_majority(with_configuration_of(table, primary), set)) {
         return Q1_FAILS;
     }

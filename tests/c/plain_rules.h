@@ -32,6 +32,7 @@ enum reply {
     NO_OWN_ENTRY = 22,
     NOT_SUPPORTED = 23,
     MARKED_OTHERWISE = 24,
+    BELOW_FLOOR = 25,
     SHORT_IMAGE = 30,
     BAD_OPENING = 31,
     BAD_NUMBER_OF_SERVERS = 32,
@@ -53,7 +54,7 @@ bool plain_is_whole(const uint8_t *table, size_t table_len);
 /* What the 8 bytes say by themselves, given n: TAKEN or one of 2 to 5. */
 uint32_t plain_parse(const uint8_t *bytes, uint32_t n, struct action *action);
 
-/* What the table says to a parsed action: TAKEN or one of 6 to 24; 8, 9, 10 and 23 with the lowest server of the set at fault, at
+/* What the table says to a parsed action: TAKEN or one of 6 to 25; 8, 9, 10 and 23 with the lowest server of the set at fault, at
  * its place in the reply. */
 uint32_t plain_judge(const uint8_t *table, const struct action *action);
 

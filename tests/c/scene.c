@@ -51,6 +51,11 @@ void give_rule(struct scene *scene, uint32_t rule)
     put_word(scene->table, RULE, rule);
 }
 
+void give_floor(struct scene *scene, uint32_t floor)
+{
+    put_word(scene->table, FLOOR, floor);
+}
+
 void give_role(struct scene *scene, uint32_t server, uint32_t role, uint32_t term)
 {
     put_word(scene->table + row_start(server), ROLE, role);

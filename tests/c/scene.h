@@ -28,10 +28,11 @@ int close_checks(const char *engine_name);
 
 struct bytes8 act(uint32_t kind, uint32_t i, uint32_t j, uint32_t set);
 
-/* Drawn up here and not by the engine's own fresh, which is checked against it; under rule 1. */
+/* Drawn up here and not by the engine's own fresh, which is checked against it; under rule 1, with no floor. */
 struct scene fresh_scene(const struct engine *engine, uint32_t n, uint32_t set);
 
 void give_rule(struct scene *scene, uint32_t rule);
+void give_floor(struct scene *scene, uint32_t floor);
 void give_role(struct scene *scene, uint32_t server, uint32_t role, uint32_t term);
 void give_configuration(struct scene *scene, uint32_t server, uint32_t set, uint32_t version, uint32_t config_term);
 void give_log(struct scene *scene, uint32_t server, size_t length, const uint32_t *entries);

@@ -8,7 +8,7 @@
 #include "engines.h"
 #include "layout.h"
 
-enum { MOST_PIECES = 1200, MOST_ROOM = REPLY_BYTES * (MOST_PIECES + 8), NUMBERS = 25 };
+enum { MOST_PIECES = 1200, MOST_ROOM = REPLY_BYTES * (MOST_PIECES + 8), NUMBERS = 26 };
 
 struct trial {
     uint8_t start[TABLE_BYTES];

@@ -1,5 +1,5 @@
--- Demand 3, of every run from a fresh table, and what is proved beside it. Nothing is asked of n, M, R and the plan: n, M and R are any
--- numbers, every n from 1 to 16, every set within n and both rules among them, and a plan is any list of numbers. Assumes nothing.
+-- Demand 3, of every run from a fresh table, and what is proved beside it. Nothing is asked of n, M, R, F and the plan: n, M, R and F are
+-- any numbers, every n from 1 to 16, every set within n, both rules and every floor among them, and a plan is any list of numbers. Assumes nothing.
 use Prim.Native.Nat.{ℕ, zero, suc, _≤_, _<_}
 use mathlib.Core.List.{List, [], _∷_}
 use mathlib.Core.Logic.{_≢_}
@@ -44,20 +44,20 @@ never-given t safe (a ∷ p) (suc k) z = never-given (step t a .table) (safe-ste
 -- ---- actions one after another, from a fresh table
 
 -- After any list of actions, each of which is any list of numbers, short, long or unknown ones among them.
-module _ (n M R : ℕ) (plan : List (List ℕ)) where
+module _ (n M R F : ℕ) (plan : List (List ℕ)) where
   abbrev pub left : Table
-  left = play (fresh n M R) plan .table
+  left = play (fresh n M R F) plan .table
 
   -- the terms won rise, so that no term is won by two elections
-  pub won-rise : Rising 0 (wonAlong (fresh n M R) plan)
-  won-rise = wins-rise (core-fresh n M R) (logless-play (fresh n M R) plan)
+  pub won-rise : Rising 0 (wonAlong (fresh n M R F) plan)
+  won-rise = wins-rise (core-fresh n M R F) (logless-play (fresh n M R F) plan)
 
   -- refusal 24 is never given
-  pub not-given-24 : (j : ℕ) → getD (numbers (play (fresh n M R) plan .replies)) j 0 ≢ 24
-  not-given-24 = never-given (fresh n M R) (safe-fresh n M R) plan
+  pub not-given-24 : (j : ℕ) → getD (numbers (play (fresh n M R F) plan .replies)) j 0 ≢ 24
+  not-given-24 = never-given (fresh n M R F) (safe-fresh n M R F) plan
 
   safe : Safe (view left)
-  safe = play-keeps (λ t. Safe (view t)) safe-step (fresh n M R) plan (safe-fresh n M R)
+  safe = play-keeps (λ t. Safe (view t)) safe-step (fresh n M R F) plan (safe-fresh n M R F)
 
   -- nor to an action that follows
   pub next-not-24 : (a : List ℕ) → step left a .number ≢ 24
@@ -93,27 +93,27 @@ module _ (n M R : ℕ) (plan : List (List ℕ)) where
 -- ---- runs from a fresh table
 
 -- After the first k actions of a plan. The whole plan has `pieceCount plan` of them; beyond it actions are empty, and refused.
-module _ (n M R : ℕ) (plan : List ℕ) (k : ℕ) where
+module _ (n M R F : ℕ) (plan : List ℕ) (k : ℕ) where
   abbrev pub end : Table
-  end = runTo k (fresh n M R) plan .table
+  end = runTo k (fresh n M R F) plan .table
 
-  pub terms-rise : Rising 0 (wonAlong (fresh n M R) (pieces k plan))
-  terms-rise = won-rise n M R (pieces k plan)
+  pub terms-rise : Rising 0 (wonAlong (fresh n M R F) (pieces k plan))
+  terms-rise = won-rise n M R F (pieces k plan)
 
-  pub never-24 : (j : ℕ) → getD (numbers (runTo k (fresh n M R) plan .replies)) j 0 ≢ 24
-  never-24 = not-given-24 n M R (pieces k plan)
+  pub never-24 : (j : ℕ) → getD (numbers (runTo k (fresh n M R F) plan .replies)) j 0 ≢ 24
+  never-24 = not-given-24 n M R F (pieces k plan)
 
   pub own-term : (i : ℕ) → T (primary (server end i)) → server end i .config .term ≡ server end i .term
-  own-term = primary-own-term n M R (pieces k plan)
+  own-term = primary-own-term n M R F (pieces k plan)
 
   pub primaries-complete : (i p : ℕ) → T (primary (server end i)) → 0 < mark end p → mark end p ≤ server end i .term
       → T (held (server end i .log) p (mark end p))
-  primaries-complete = primary-complete n M R (pieces k plan)
+  primaries-complete = primary-complete n M R F (pieces k plan)
 
   pub one-primary : (i j : ℕ) → T (primary (server end i)) → T (primary (server end j))
       → server end i .term ≡ server end j .term → i ≡ j
-  one-primary = sole-primary n M R (pieces k plan)
+  one-primary = sole-primary n M R F (pieces k plan)
 
   pub logs-match : (i j p u : ℕ) → T (held (server end i .log) p u) → T (held (server end j .log) p u)
       → (r : ℕ) → r ≤ p → termAt (server end i .log) r ≡ termAt (server end j .log) r
-  logs-match = logs-agree n M R (pieces k plan)
+  logs-match = logs-agree n M R F (pieces k plan)

@@ -70,7 +70,7 @@ module _ (t : Table) where
       let a : Action = reconfigure i m in
       let sets = none a 13 _ (record { no = tt }) (apart-server (t .rule) (server t i .config .set) m) in
       let rest = quiet-shown a (majorityRefusals t i ++ markRefusals t i) tt in
-      (λ _. quietly a 6 tt, (λ _. quietly a 11 tt, (λ _. quietly a 12 tt, (λ _. sets, rest))))
+      (λ _. quietly a 6 tt, (λ _. quietly a 11 tt, (λ _. quietly a 12 tt, (λ _. sets, (λ _. quietly a 25 tt, rest)))))
 
   commit-shown : (i q : ℕ) → Passes (within q (count t)) → EachHeld (ServerShown t (commit i q)) (commitRefusals t i q)
   commit-shown i q w =

@@ -114,12 +114,12 @@ pub step-sound : (t : Table) (a : List ℕ) → Fails (broken t) → Fails (brok
 step-sound t a h =
     ⊎-elim (λ d. rw (d .table) (sound-table (after-sound t (actionOf a) (d .taken)))) (λ r. rw (r .table) h) (outcome t a)
 
--- a fresh table of 1 to 16 servers with a set within them, under one of the two rules, is not broken
-pub fresh-sound : (n M R : ℕ) → 1 ≤ n → n ≤ mostServers → Passes (within M n) → R ≤ 1 → Fails (broken (fresh n M R))
+-- a fresh table of 1 to 16 servers with a set within them, under one of the two rules and with a floor up to 16, is not broken
+pub fresh-sound : (n M R F : ℕ) → 1 ≤ n → n ≤ mostServers → Passes (within M n) → R ≤ 1 → F ≤ mostServers → Fails (broken (fresh n M R F))
 unfolding every
-fresh-sound n M R some few w one =
-    let e : count (fresh n M R) ≡ n = length-replicate n (freshServer M) in
-    let sound : SoundServer (count (fresh n M R)) (freshServer M) = record {
+fresh-sound n M R F some few w one low =
+    let e : count (fresh n M R F) ≡ n = length-replicate n (freshServer M) in
+    let sound : SoundServer (count (fresh n M R F)) (freshServer M) = record {
       role = inr refl;
       term = omega arith;
       config = record { set = rw e w; some = omega arith; version = omega arith; term = omega arith };
@@ -129,8 +129,9 @@ fresh-sound n M R some few w one =
     sound-table (record {
       some = omega arith;
       few = omega arith;
-      servers = every-replicate (soundServer (count (fresh n M R))) n (freshServer M) (sound-server sound);
+      servers = every-replicate (soundServer (count (fresh n M R F))) n (freshServer M) (sound-server sound);
       full = length-replicate {A = ℕ} positions 0;
       marks = every-replicate (λ m. leb m ceiling) positions 0 (record { yes = tt });
       rule = one;
+      floor = low;
     })

@@ -7,22 +7,22 @@ use mathlib.Core.Path.{_≡_, refl, sym, subst}
 use native.Mathlib.Decide.{ℕ-discrete}
 use native.Mathlib.Omega.{arith}
 use lib.Dec.{T, eqb}
-use lib.ListN.{getD}
+use lib.ListN.{getD, drop}
 use borrow.Author.Tests.{eqb-true, eqb-false}
 use Rattle.members.specs.Members.{within}
-use Rattle.words.proofs.RefusalLaws.{NoneHold, lacks, first-later, none-hold, ascending, EachHeld, each-map, given-each, given-none, given-held}
+use Rattle.words.proofs.RefusalLaws.{NoneHold, lacks, first-later, none-hold, inOrder, EachHeld, each-map, given-each, given-none, given-held}
 use Rattle.words.proofs.Tests.{Passes, Fails, neither, refuted, both-refuted}
 use Rattle.algorithm.specs.Table.{Table, count, broken, positions}
 use Rattle.words.specs.Lists.{every, between}
 use Rattle.words.specs.Refusal.{nothing, Refusal, first, Answer, answer, given, firstShown}
 use Rattle.algorithm.specs.Actions.{Action, unknown, elect, reconfigure, send, spread, write, fetch, rollBack, commit, kinds, kindOf, iOf, jOf, setOf, usesSet, usesJ, actionOf, stretch, setFits}
-use Rattle.algorithm.specs.Run.{known, commonRefusals, ownRefusals, refusals, after, takenShown, answered, step, wins, wonBy}
+use Rattle.algorithm.specs.Run.{known, commonRefusals, ownRefusals, order, refusals, after, takenShown, answered, step, wins, wonBy}
 
 -- ---- the numbers of an action's refusals
 
--- none is 0, and each is larger than the one before it
-own-numbers : (t : Table) (a : Action) → T (lacks 0 (ownRefusals t a)) × T (ascending 5 (ownRefusals t a))
-unfolding every ascending
+-- none is 0, and they stand in the order of refusals, behind the five that all kinds share
+own-numbers : (t : Table) (a : Action) → T (lacks 0 (ownRefusals t a)) × T (inOrder (drop 5 order) (ownRefusals t a))
+unfolding every inOrder
 own-numbers t unknown = (tt, tt)
 own-numbers t (elect i q) = (tt, tt)
 own-numbers t (reconfigure i m) = (tt, tt)
@@ -39,9 +39,9 @@ pub none-given : (t : Table) (a : Action) → first (ownRefusals t a) ≡ 0 → 
 unfolding first firstShown
 none-given t a e = rw append-nil at (given-none (ownRefusals t a) [] (own-numbers t a .0) e)
 
--- the refusals of an action stand lowest first, so that the first that holds is the lowest
-pub lowest-first : (t : Table) (a : List ℕ) → T (ascending 0 (refusals t a))
-unfolding ascending refusals
+-- the refusals of an action stand in that order, so that the first that holds is the lowest, but that 25 comes before 14 to 24
+pub lowest-first : (t : Table) (a : List ℕ) → T (inOrder order (refusals t a))
+unfolding inOrder refusals
 lowest-first t a = own-numbers t (actionOf a) .1
 
 -- ---- an action whose servers and set are those of a table of n servers

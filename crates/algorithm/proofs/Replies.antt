@@ -136,7 +136,7 @@ module _ (t : Table) (sound : SoundTable t) where
       let (c, d) = set-range m-fits in
       let shown = apart-carried (t .rule) (server t i .config .set) m a b c d in
       let rest = quiet-carried (majorityRefusals t i ++ markRefusals t i) tt in
-      (λ _. quietly 6 tt, (λ _. quietly 11 tt, (λ _. quietly 12 tt, (shown, rest))))
+      (λ _. quietly 6 tt, (λ _. quietly 11 tt, (λ _. quietly 12 tt, (shown, (λ _. quietly 25 tt, rest)))))
   own-carried (send i j) fit = quiet-carried (sendRefusals t i j) tt
   own-carried (spread i j) fit = quiet-carried (spreadRefusals t i j) tt
   own-carried (write i) fit = quiet-carried (writeRefusals t i) tt

@@ -1,4 +1,4 @@
--- What holds of runs because it holds of steps; runs joined; marks stay, and the rule does. Assumes nothing.
+-- What holds of runs because it holds of steps; runs joined; marks stay, and the rule and the floor do. Assumes nothing.
 use Prim.Native.Nat.{ℕ, zero, suc, _+_, _*_, _<_}
 use mathlib.Core.Bool.{false}
 use mathlib.Core.List.{List, [], _∷_, _++_, append-assoc}
@@ -139,7 +139,7 @@ pub marks-stay : (t : Table) (plan : List ℕ) (p : ℕ) → 0 < mark t p → ma
 marks-stay t plan p o =
     play-keeps (λ s. mark s p ≡ mark t p) (λ s a e. mark-step s a p (omega arith) ∙ e) t (pieces (pieceCount plan) plan) refl
 
--- ---- the rule
+-- ---- the rule and the floor
 
 -- what neither other servers nor other marks alter, no action alters
 module _ {A : Type 0} (f : Table → A) (servers : (ss : List Server) (t : Table) → f (withServers ss t) ≡ f t) (marks : (ms : List ℕ) (t : Table) → f (withMarks ms t) ≡ f t) where
@@ -169,3 +169,11 @@ step-rule = step-stays (λ t. t .rule) (λ ss t. refl) (λ ms t. refl)
 -- and so do actions one after another, and with them every run
 pub play-rule : (t : Table) (p : List (List ℕ)) → play t p .table .rule ≡ t .rule
 play-rule = play-stays (λ t. t .rule) (λ ss t. refl) (λ ms t. refl)
+
+-- a step keeps the floor of its table
+pub step-floor : (t : Table) (a : List ℕ) → step t a .table .floor ≡ t .floor
+step-floor = step-stays (λ t. t .floor) (λ ss t. refl) (λ ms t. refl)
+
+-- and so does every run
+pub play-floor : (t : Table) (p : List (List ℕ)) → play t p .table .floor ≡ t .floor
+play-floor = play-stays (λ t. t .floor) (λ ss t. refl) (λ ms t. refl)

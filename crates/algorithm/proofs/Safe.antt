@@ -24,16 +24,16 @@ pub record Safe (v : View) : Type 0 where
 
 -- ---- a fresh table
 
-module _ (n M R : ℕ) where
-  pub core-fresh : Fresh M (core (fresh n M R))
-  core-fresh k = ⊎-elim (λ e. inl (ap (withLog []) e)) (λ e. inr (ap (withLog []) e)) (server-fresh n M R k)
+module _ (n M R F : ℕ) where
+  pub core-fresh : Fresh M (core (fresh n M R F))
+  core-fresh k = ⊎-elim (λ e. inl (ap (withLog []) e)) (λ e. inr (ap (withLog []) e)) (server-fresh n M R F k)
 
-  no-entry : (k : ℕ) {p u : ℕ} → HasEntry (server (fresh n M R) k .log) p u → ⊥
+  no-entry : (k : ℕ) {p u : ℕ} → HasEntry (server (fresh n M R F) k .log) p u → ⊥
   no-entry k h =
-      let e : length (server (fresh n M R) k .log) ≡ 0 = ⊎-elim (λ e. ap (λ s. length (s .log)) e) (λ e. ap (λ s. length (s .log)) e) (server-fresh n M R k) in
+      let e : length (server (fresh n M R F) k .log) ≡ 0 = ⊎-elim (λ e. ap (λ s. length (s .log)) e) (λ e. ap (λ s. length (s .log)) e) (server-fresh n M R F k) in
       omega (arith, h .some, h .within)
 
-  pub no-mark : {p u : ℕ} → Marked (mark (fresh n M R)) p u → ⊥
+  pub no-mark : {p u : ℕ} → Marked (mark (fresh n M R F)) p u → ⊥
   unfolding nth
   no-mark {p} m = omega (arith, m .is, m .positive, unmarked p)
     where
@@ -42,11 +42,11 @@ module _ (n M R : ℕ) where
       repeated d (suc k) zero = refl
       repeated d (suc k) (suc p) = repeated d k p
 
-      unmarked : (p : ℕ) → mark (fresh n M R) p ≡ 0
+      unmarked : (p : ℕ) → mark (fresh n M R F) p ≡ 0
       unmarked zero = refl
       unmarked (suc p) = repeated 0 positions p
 
-  pub safe-fresh : Safe (view (fresh n M R))
+  pub safe-fresh : Safe (view (fresh n M R F))
   safe-fresh = record {
     configs = inv-fresh core-fresh;
     logs = record {

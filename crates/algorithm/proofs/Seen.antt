@@ -114,13 +114,13 @@ module _ (q T′ : ℕ) where
 
 -- ---- a fresh table
 
-module _ (n M R : ℕ) where
+module _ (n M R F : ℕ) where
   fresh-or-absent : (n k : ℕ) → (getD (replicate n (freshServer M)) k absent ≡ freshServer M) ⊎ (getD (replicate n (freshServer M)) k absent ≡ absent)
   fresh-or-absent zero k = inr refl
   fresh-or-absent (suc n) zero = inl refl
   fresh-or-absent (suc n) (suc k) = fresh-or-absent n k
 
-  pub server-fresh : (k : ℕ) → (server (fresh n M R) k ≡ freshServer M) ⊎ (server (fresh n M R) k ≡ absent)
+  pub server-fresh : (k : ℕ) → (server (fresh n M R F) k ≡ freshServer M) ⊎ (server (fresh n M R F) k ≡ absent)
   unfolding nth
   server-fresh zero = inr refl
   server-fresh (suc k) = fresh-or-absent n k

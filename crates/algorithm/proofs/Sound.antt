@@ -39,6 +39,7 @@ pub record SoundTable (t : Table) : Type 0 where
   pub full : length (t .marks) ≡ positions
   pub marks : Passes (every (λ m. leb m ceiling) (t .marks))
   pub rule : t .rule ≤ 1
+  pub floor : t .floor ≤ mostServers
 
 config-sound : {n : ℕ} {C : Config} → Passes (soundConfig n C) → SoundConfig n C
 config-sound h =
@@ -75,20 +76,23 @@ sound-server {n} {s} h =
 pub table-sound : {t : Table} → Fails (broken t) → SoundTable t
 unfolding broken
 table-sound h =
-    let (abcd, e) = both (refuted h) in
+    let (abcde, f) = both (refuted h) in
+    let (abcd, e) = both abcde in
     let (abc, marks) = both abcd in
     let (ab, c) = both abc in
     let (a, b) = both ab in
     let (full, d) = both marks in
-    record { some = at-most a; few = at-most b; servers = c; full = equal full; marks = d; rule = at-most e }
+    record { some = at-most a; few = at-most b; servers = c; full = equal full; marks = d; rule = at-most e; floor = at-most f }
 
 pub sound-table : {t : Table} → SoundTable t → Fails (broken t)
 unfolding broken
 sound-table h =
     unrefuted
     (together
+    (together
     (together (together (together (is-at-most (h .some)) (is-at-most (h .few))) (h .servers)) (together (is-equal (h .full)) (h .marks)))
     (is-at-most (h .rule)))
+    (is-at-most (h .floor)))
 
 pub here-sound : {t : Table} → SoundTable t → (i : ℕ) → Passes (known (count t) i) → SoundServer (count t) (server t i)
 here-sound {t} h i k = let (a, b) = known-range k in server-sound (every-nth (soundServer (count t)) (t .servers) i absent (h .servers) a b)
@@ -105,6 +109,7 @@ module _ {t : Table} (h : SoundTable t) where
     full = h .full;
     marks = h .marks;
     rule = omega (arith, h .rule);
+    floor = omega (arith, h .floor);
   }
 
   pub with-sound : (i : ℕ) (s : Server) → SoundServer (count t) s → SoundTable (withServer t i s)
@@ -118,7 +123,8 @@ module _ {t : Table} (h : SoundTable t) where
     servers = h .servers;
     full = length-replace (t .marks) p m ∙ h .full;
     marks = every-replace (λ m. leb m ceiling) (t .marks) p m (h .marks) (is-at-most l);
-    rule = h .rule;
+    rule = omega (arith, h .rule);
+    floor = omega (arith, h .floor);
   }
 
 pub stepped-sound : {n : ℕ} {s : Server} → SoundServer n s → (T : ℕ) → T ≤ ceiling → SoundServer n (steppedDown T s)

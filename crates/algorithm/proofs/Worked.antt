@@ -9,7 +9,7 @@ use Rattle.algorithm.specs.Table.{broken, prefix}
 use Rattle.algorithm.specs.Actions.{votersFrom, someMarked, holdsMarked}
 use Rattle.algorithm.specs.Run.{repliesBytes, refusals, after, step, pieces, play}
 use Rattle.words.specs.Refusal.{first, firstShown}
-use Rattle.algorithm.specs.Cases.{cases, changes}
+use Rattle.algorithm.specs.Cases.{cases, changes, floors}
 
 pub cases-hold : map (λ k. k .gives) cases ≡ map (λ k. k .expected) cases
 unfolding cases ones mask nth replace every broken prefix votersFrom refusals first after step pieces play
@@ -18,3 +18,7 @@ cases-hold = refl
 pub changes-hold : map (λ k. k .gives) changes ≡ map (λ k. k .expected) changes
 unfolding changes ones mask oldApart newApart lowestFrom nth replace every broken someMarked holdsMarked refusals first firstShown after step pieces play repliesBytes flatten
 changes-hold = refl
+
+pub floors-hold : map (λ k. k .gives) floors ≡ map (λ k. k .expected) floors
+unfolding floors ones mask oldApart newApart lowestFrom nth replace every broken someMarked holdsMarked votersFrom refusals first firstShown after step pieces play repliesBytes flatten
+floors-hold = refl

@@ -1,5 +1,5 @@
--- The nine actions: the bytes that name one; for each kind the refusals that are its own, lowest first, and the table after it.
--- A byte is any number here; those that come from a slice are below 256. Assumes nothing.
+-- The nine actions: the bytes that name one; for each kind the refusals that are its own, in the order in which they are looked at, and the
+-- table after it. A byte is any number here; those that come from a slice are below 256. Assumes nothing.
 use Prim.Native.Nat.{ℕ, zero, suc, _+_}
 use mathlib.Core.Bool.{Bool, true, false, cond, not, _||_, _&&_}
 use mathlib.Core.List.{List, [], _∷_, _++_}
@@ -9,7 +9,7 @@ use Rattle.words.specs.Words.{pairOf}
 use Rattle.words.specs.Refusal.{Shown, nothing, Refusal, refuse, refuseShowing, first, unlessRefused}
 use Rattle.members.specs.Members.{member, within, majority, somePass, mostPass, lowestIn}
 use Rattle.words.specs.Lists.{between}
-use Rattle.members.specs.Rules.{mayFollow, oldApart, newApart}
+use Rattle.members.specs.Rules.{mayFollow, belowFloor, oldApart, newApart}
 use Rattle.algorithm.specs.Table.{Config, configOf, entry, Log, Server, Table, count, server, primary, secondary, entryAt, termAt, mark, withServers, withServer, changed, withMark, withRole, withTerm, withConfig, withEntry, withoutLast, ceiling, positions, newer, last, ahead, held, prefix}
 
 -- ---- the bytes by their places: 0 the kind, 1 and 2 servers i and j, 4 and 5 the set; 3, 6 and 7 are 0
@@ -178,7 +178,7 @@ abbrev pub apartShown : ℕ → ℕ → ℕ → Shown
 apartShown zero old new = nothing
 apartShown (suc k) old new = twoSets (oldApart old new) (newApart old new)
 
--- 6 and 11 to 13: the leader and its new set
+-- 6, 11 to 13 and 25: the leader and its new set
 abbrev pub newSetRefusals : Table → ℕ → ℕ → List Refusal
 newSetRefusals t i M =
     let a = server t i in
@@ -186,6 +186,7 @@ newSetRefusals t i M =
     ∷ refuse 11 (eqb (a .config .version) ceiling)
     ∷ refuse 12 (not (member i M))
     ∷ refuseShowing 13 (not (mayFollow (t .rule) (a .config .set) M)) (apartShown (t .rule) (a .config .set) M)
+    ∷ refuse 25 (belowFloor (t .floor) M)
     ∷ []
 
 -- 14 and 15: Q1 and Q2
@@ -196,7 +197,7 @@ majorityRefusals t i = refuse 14 (not (q1 t i)) ∷ refuse 15 (not (q2 t i)) ∷
 abbrev pub markRefusals : Table → ℕ → List Refusal
 markRefusals t i = refuse 16 (not (p1 t i)) ∷ []
 
--- reconfigure: 6 and 11 to 16
+-- reconfigure: 6, 11 to 13, 25 and 14 to 16, in this order
 abbrev pub reconfigureRefusals : Table → ℕ → ℕ → List Refusal
 reconfigureRefusals t i M = newSetRefusals t i M ++ (majorityRefusals t i ++ markRefusals t i)
 

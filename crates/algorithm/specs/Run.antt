@@ -84,7 +84,7 @@ formRefusals n bs =
 abbrev pub commonRefusals : Table → List ℕ → List Refusal
 commonRefusals t bs = refuse 1 (broken t) ∷ formRefusals (count t) bs
 
--- 6 to 24, of the action's own kind; for an unknown one 2 holds already
+-- 6 to 25, of the action's own kind; for an unknown one 2 holds already
 abbrev pub ownRefusals : Table → Action → List Refusal
 ownRefusals t unknown = []
 ownRefusals t (elect i Q) = electRefusals t i Q
@@ -97,7 +97,12 @@ ownRefusals t (rollBack i j) = rollBackRefusals t i j
 ownRefusals t (commit i Q) = commitRefusals t i Q
 ownRefusals t (stretch i j c) = fetchRefusals t i j
 
--- all refusals of the action that the bytes name, lowest number first
+-- the order in which refusals are looked at: lowest first, but for 25, which stands directly behind 13
+abbrev pub order : List ℕ
+order =
+    1 ∷ 2 ∷ 3 ∷ 4 ∷ 5 ∷ 6 ∷ 7 ∷ 8 ∷ 9 ∷ 10 ∷ 11 ∷ 12 ∷ 13 ∷ 25 ∷ 14 ∷ 15 ∷ 16 ∷ 17 ∷ 18 ∷ 19 ∷ 20 ∷ 21 ∷ 22 ∷ 23 ∷ 24 ∷ []
+
+-- all refusals of the action that the bytes name, in that order (proofs/Refused: lowest-first)
 unfoldable pub refusals : Table → List ℕ → List Refusal
 refusals t bs = commonRefusals t bs ++ ownRefusals t (actionOf bs)
 

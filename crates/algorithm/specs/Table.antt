@@ -42,11 +42,13 @@ pub record Server : Type 0 where
   pub config : Config
   pub log : Log
 
--- the servers in the order of their numbers; a mark a position: the term that was committed there, or 0; and the rule: 0 for rule 1, 1 for rule 2
+-- the servers in the order of their numbers; a mark a position: the term that was committed there, or 0; the rule: 0 for rule 1, 1 for rule 2;
+-- and the floor: the least number of members that a new set may have
 pub record Table : Type 0 where
   pub servers : List Server
   pub marks : List ℕ
   pub rule : ℕ
+  pub floor : ℕ
 
 -- n, the number of servers
 abbrev pub count : Table → ℕ
@@ -88,11 +90,11 @@ mark t p = nth (t .marks) p 0
 
 -- the table with these servers
 abbrev pub withServers : List Server → Table → Table
-withServers ss t = record { servers = ss; marks = t .marks; rule = t .rule }
+withServers ss t = record { servers = ss; marks = t .marks; rule = t .rule; floor = t .floor }
 
 -- the table with these marks
 abbrev pub withMarks : List ℕ → Table → Table
-withMarks ms t = record { servers = t .servers; marks = ms; rule = t .rule }
+withMarks ms t = record { servers = t .servers; marks = ms; rule = t .rule; floor = t .floor }
 
 -- the table with s as server i
 abbrev pub withServer : Table → ℕ → Server → Table
@@ -173,17 +175,24 @@ soundCount n = between 1 mostServers n
 abbrev pub soundRule : ℕ → Bool
 soundRule R = leb R 1
 
--- the table is broken: the number of servers, one of them, the marks or the rule are not as above
+-- the floor: from 0 to the most servers, whatever n is
+abbrev pub soundFloor : ℕ → Bool
+soundFloor F = leb F mostServers
+
+-- the table is broken: the number of servers, one of them, the marks, the rule or the floor are not as above
 unfoldable pub broken : Table → Bool
-broken t = not (soundCount (count t) && every (soundServer (count t)) (t .servers) && soundMarks (t .marks) && soundRule (t .rule))
+broken t =
+    not
+    (soundCount (count t) && every (soundServer (count t)) (t .servers) && soundMarks (t .marks) && soundRule (t .rule) && soundFloor (t .floor))
 
 -- a server before any action, with the set M
 abbrev pub freshServer : ℕ → Server
 freshServer M = serverWith 0 0 (configOf M 1 0) []
 
--- n such servers under the rule R, and no marks; where n is not 1 to 16, M is empty or not within n, or R is above 1, this table is broken
-abbrev pub fresh : ℕ → ℕ → ℕ → Table
-fresh n M R = record { servers = replicate n (freshServer M); marks = replicate positions 0; rule = R }
+-- n such servers under the rule R and with the floor F, and no marks; where n is not 1 to 16, M is empty or not within n, R is above 1, or F is
+-- above 16, this table is broken
+abbrev pub fresh : ℕ → ℕ → ℕ → ℕ → Table
+fresh n M R F = record { servers = replicate n (freshServer M); marks = replicate positions 0; rule = R; floor = F }
 
 -- ---- marks as an image and a report give them
 

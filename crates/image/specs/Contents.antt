@@ -6,7 +6,7 @@ use lib.Dec.{leb, eqb}
 use lib.ListN.{length, getD, drop}
 use Rattle.words.specs.Lists.{between, allBelow, nth, every, part}
 use Rattle.words.specs.Words.{halfAt, words}
-use Rattle.algorithm.specs.Table.{positions, entries, Server, ceiling, soundServer, soundRule, serverWith, configOf}
+use Rattle.algorithm.specs.Table.{positions, entries, Server, ceiling, soundServer, soundRule, soundFloor, serverWith, configOf}
 use Rattle.table.specs.Layout.{padded}
 
 -- ---- the opening
@@ -19,7 +19,11 @@ countIn im = getD im 4 0
 abbrev pub ruleIn : List ℕ → ℕ
 ruleIn im = getD im 6 0
 
--- the letters SITE, and 0 in bytes 5 and 7
+-- the floor
+abbrev pub floorIn : List ℕ → ℕ
+floorIn im = getD im 7 0
+
+-- the letters SITE, and 0 in byte 5
 abbrev pub lettered : List ℕ → Bool
 lettered im =
     eqb (getD im 0 0) 83
@@ -27,11 +31,10 @@ lettered im =
     && eqb (getD im 2 0) 84
     && eqb (getD im 3 0) 69
     && eqb (getD im 5 0) 0
-    && eqb (getD im 7 0) 0
 
--- these, and one of the two rules
+-- these, one of the two rules, and a floor that a table may have
 abbrev pub opened : List ℕ → Bool
-opened im = lettered im && soundRule (ruleIn im)
+opened im = lettered im && soundRule (ruleIn im) && soundFloor (floorIn im)
 
 -- ---- the contents: entry 0 is for the marks, entry s for server s
 

@@ -7,9 +7,9 @@ use Rattle.words.specs.Words.{half, bytes}
 use Rattle.table.specs.Layout.{terms}
 use Rattle.image.specs.Contents.{firstBody, figureBytes}
 
--- the letters SITE, the number of servers, 0, the rule, 0
+-- the letters SITE, the number of servers, 0, the rule, the floor
 abbrev pub opening : Table → List ℕ
-opening t = 83 ∷ 73 ∷ 84 ∷ 69 ∷ count t ∷ 0 ∷ t .rule ∷ 0 ∷ []
+opening t = 83 ∷ 73 ∷ 84 ∷ 69 ∷ count t ∷ 0 ∷ t .rule ∷ t .floor ∷ []
 
 -- the marks in four bytes each
 abbrev pub marksBody : List ℕ → List ℕ

@@ -33,8 +33,8 @@ pub fn is_opened(image: &[u8]) -> bool
         & (image[2] == b'T')
         & (image[3] == b'E')
         & (image[5] == 0)
-        & (image[7] == 0)
         & (image[6] <= RULE_2 as u8)
+        & (image[7] <= SERVERS)
 }
 
 pub fn is_counted(image: &[u8]) -> bool

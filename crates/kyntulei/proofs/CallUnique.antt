@@ -4,7 +4,7 @@ use mathlib.Core.List.{List}
 use mathlib.Core.Path.{_≡_, sym, _∙_}
 use Rattle.kyntulei.specs.Promise.{FreshAnswer, StepAnswer, RunAnswer}
 
-pub fresh-unique : {b x y : List ℕ} {n m R r s : ℕ} → FreshAnswer b n m R r x → FreshAnswer b n m R s y → (r ≡ s) × (x ≡ y)
+pub fresh-unique : {b x y : List ℕ} {n m R F r s : ℕ} → FreshAnswer b n m R F r x → FreshAnswer b n m R F s y → (r ≡ s) × (x ≡ y)
 fresh-unique h k = (h .reply ∙ sym (k .reply), h .bytes ∙ sym (k .bytes))
 
 pub step-unique : {b a x y : List ℕ} {r s v w : ℕ} → StepAnswer b a r v x → StepAnswer b a s w y → (r ≡ s) × (v ≡ w) × (x ≡ y)

@@ -22,14 +22,14 @@ use Rattle.kyntulei.specs.Promise.{freshReply, FreshAnswer, stepReply, s
 use Rattle.kyntulei.proofs.FreshLaws.{fillable}
 
 -- a slice that is filled has the bytes of a fresh table, which breaks no rule
-module _ {b b' : List ℕ} {n m R : ℕ} (h : FreshAnswer b n m R 0 b') where
-  pub filled-bytes : b' ≡ stored (fresh n m R)
-  filled-bytes = h .bytes ∙ rw (eq-eqb (freshReply b n m R) 0 (sym (h .reply)))
+module _ {b b' : List ℕ} {n m R F : ℕ} (h : FreshAnswer b n m R F 0 b') where
+  pub filled-bytes : b' ≡ stored (fresh n m R F)
+  filled-bytes = h .bytes ∙ rw (eq-eqb (freshReply b n m R F) 0 (sym (h .reply)))
 
-  pub filled-sound : broken (fresh n m R) ≡ false
+  pub filled-sound : broken (fresh n m R F) ≡ false
   filled-sound =
-      let asked = fillable b n m R (sym (h .reply)) in
-      fails-false (fresh-sound n m R (asked .some) (asked .few) (asked .set) (asked .rule))
+      let asked = fillable b n m R F (sym (h .reply)) in
+      fails-false (fresh-sound n m R F (asked .some) (asked .few) (asked .set) (asked .rule) (asked .floor))
 
 -- a step of the bytes of a table that breaks no rule is the step of the table
 module _ (t : Table) (sound : broken t ≡ false) (a : List ℕ) where

@@ -14,7 +14,7 @@ use Rattle.algorithm.specs.Actions.{actionOf}
 use Rattle.words.specs.Words.{valueOf, eight}
 use Rattle.words.specs.Refusal.{Answer, unlessRefused}
 use Rattle.algorithm.specs.Run.{replyBytes, repliesBytes, answered, step, pieces, play, wins, wonBy, wonAlong, Rising}
-use Rattle.algorithm.proofs.Runs.{play-sound, play-rule, play-append, won-append, pieces-append}
+use Rattle.algorithm.proofs.Runs.{play-sound, play-rule, play-floor, play-append, won-append, pieces-append}
 use Rattle.algorithm.proofs.Demands.{won-rise, not-given-24, next-not-24, primary-complete}
 use Rattle.algorithm.proofs.Replies.{step-carried, carried-eight, length-bytes, bytes-append, number-at}
 use Rattle.table.specs.Layout.{stored, tableIn, whole}
@@ -71,7 +71,7 @@ module _ (t : Table) (sound : broken t ≡ false) where
       (ap (take (8 * played p s)) (a .replies ∙ ap (λ (c : List ℕ). runReplies c p s) (before .bytes)) ∙ run-replies u (play-sound t plan sound) p s))
   calls-play (carried {d = d} h w rest a) = kept (calls-play h) (read-saved w rest (read-sized _ d 0 (a .reply) refl) a .1)
   calls-play (unread {c = c} {r = r} h im e e' a o) = kept (calls-play h) (a .bytes ∙ sym (kept-bytes im c r (a .reply) (omega arith)))
-  calls-play (unfilled {c = c} {r = r} h n m R a o) = kept (calls-play h) (a .bytes ∙ rw (ne-eqb (freshReply c n m R) 0 (omega (arith, a .reply))))
+  calls-play (unfilled {c = c} {r = r} h n m R F a o) = kept (calls-play h) (a .bytes ∙ rw (ne-eqb (freshReply c n m R F) 0 (omega (arith, a .reply))))
 
 -- ---- calls from any whole slice
 
@@ -96,72 +96,76 @@ same-bytes w h = same-plan w h none .1
 
 -- ---- calls from a fresh table
 
-module _ {n m R : ℕ} {plan : List (List ℕ)} {replies b : List ℕ} (h : Reached n m R plan replies b) where
-  plays : Plays (fresh n m R) plan replies b
-  plays = calls-play (fresh n m R) (filled-sound (h .filled)) (rw (filled-bytes (h .filled)) at (h .calls))
+module _ {n m R F : ℕ} {plan : List (List ℕ)} {replies b : List ℕ} (h : Reached n m R F plan replies b) where
+  plays : Plays (fresh n m R F) plan replies b
+  plays = calls-play (fresh n m R F) (filled-sound (h .filled)) (rw (filled-bytes (h .filled)) at (h .calls))
 
   -- the table in the slice is what the actions leave of the fresh one, and the replies are the algorithm's
-  pub reached-table : tableIn b ≡ play (fresh n m R) plan .table
-  reached-table = ap tableIn (plays .bytes) ∙ stored-table (play (fresh n m R) plan .table) (play-sound (fresh n m R) plan (filled-sound (h .filled)))
+  pub reached-table : tableIn b ≡ play (fresh n m R F) plan .table
+  reached-table = ap tableIn (plays .bytes) ∙ stored-table (play (fresh n m R F) plan .table) (play-sound (fresh n m R F) plan (filled-sound (h .filled)))
 
-  pub reached-replies : replies ≡ repliesBytes (play (fresh n m R) plan .replies)
+  pub reached-replies : replies ≡ repliesBytes (play (fresh n m R F) plan .replies)
   reached-replies = plays .replies
 
   pub reached-whole : whole b ≡ true
-  reached-whole = rw (plays .bytes) (stored-whole (play (fresh n m R) plan .table) (play-sound (fresh n m R) plan (filled-sound (h .filled))))
+  reached-whole = rw (plays .bytes) (stored-whole (play (fresh n m R F) plan .table) (play-sound (fresh n m R F) plan (filled-sound (h .filled))))
 
   -- under the rule that it was filled with
   pub reached-rule : tableIn b .rule ≡ R
-  reached-rule = ap (λ (t : Table). t .rule) reached-table ∙ play-rule (fresh n m R) plan
+  reached-rule = ap (λ (t : Table). t .rule) reached-table ∙ play-rule (fresh n m R F) plan
+
+  -- and with the floor
+  pub reached-floor : tableIn b .floor ≡ F
+  reached-floor = ap (λ (t : Table). t .floor) reached-table ∙ play-floor (fresh n m R F) plan
 
   -- the terms won by all actions rise, so that no term is won by two elections
-  pub reached-rise : Rising 0 (wonAlong (fresh n m R) plan)
-  reached-rise = won-rise n m R plan
+  pub reached-rise : Rising 0 (wonAlong (fresh n m R F) plan)
+  reached-rise = won-rise n m R F plan
 
   -- every primary holds, at its position, each entry marked with a term not above its own
   pub reached-complete : (i q : ℕ) → T (primary (server (tableIn b) i)) → 0 < mark (tableIn b) q → mark (tableIn b) q ≤ server (tableIn b) i .term
       → T (held (server (tableIn b) i .log) q (mark (tableIn b) q))
-  reached-complete = rw reached-table (primary-complete n m R plan)
+  reached-complete = rw reached-table (primary-complete n m R F plan)
 
   -- no reply has the number 24, which is the first of its bytes
   pub reached-24 : (j : ℕ) → getD replies (8 * j) 0 ≢ 24
-  reached-24 = rw reached-replies (λ j e. not-given-24 n m R plan j (sym (number-at (play (fresh n m R) plan .replies) j) ∙ e))
+  reached-24 = rw reached-replies (λ j e. not-given-24 n m R F plan j (sym (number-at (play (fresh n m R F) plan .replies) j) ∙ e))
 
 -- two that were reached by the same actions are the same, whatever calls made them
-pub reached-unique : {n m R : ℕ} {plan : List (List ℕ)} {rs b qs c : List ℕ} → Reached n m R plan rs b → Reached n m R plan qs c → (rs ≡ qs) × (b ≡ c)
+pub reached-unique : {n m R F : ℕ} {plan : List (List ℕ)} {rs b qs c : List ℕ} → Reached n m R F plan rs b → Reached n m R F plan qs c → (rs ≡ qs) × (b ≡ c)
 reached-unique h k = (plays h .replies ∙ sym (plays k .replies), plays h .bytes ∙ sym (plays k .bytes))
 
 -- ---- a call on a reached slice
 
-module _ {n m R : ℕ} {plan : List (List ℕ)} {replies b : List ℕ} (h : Reached n m R plan replies b) where
+module _ {n m R F : ℕ} {plan : List (List ℕ)} {replies b : List ℕ} (h : Reached n m R F plan replies b) where
   module _ {a b' : List ℕ} {r w : ℕ} (s : StepAnswer b a r w b') where
-    pub then-step : Reached n m R (plan ++ (a ∷ [])) (replies ++ eight w) b'
+    pub then-step : Reached n m R F (plan ++ (a ∷ [])) (replies ++ eight w) b'
     then-step = record { given = h .given; first = h .first; filled = h .filled; calls = stepped (h .calls) s }
 
     -- it is not answered 24
     pub step-24 : r ≢ 24
-    step-24 e = next-not-24 n m R plan a (rw (reached-whole h, reached-table h) at (sym (s .number) ∙ e))
+    step-24 e = next-not-24 n m R F plan a (rw (reached-whole h, reached-table h) at (sym (s .number) ∙ e))
 
     -- the term that it wins, told by the slice and the reply
-    pub step-won : wonAlong (fresh n m R) (plan ++ (a ∷ [])) ≡ wonAlong (fresh n m R) plan ++ unlessRefused r (wins (tableIn b) (actionOf a)) []
+    pub step-won : wonAlong (fresh n m R F) (plan ++ (a ∷ [])) ≡ wonAlong (fresh n m R F) plan ++ unlessRefused r (wins (tableIn b) (actionOf a)) []
     unfolding wonAlong wonBy
-    step-won = won-append (fresh n m R) plan (a ∷ []) ∙ rw (← reached-table h, s .number, reached-whole h, append-nil)
+    step-won = won-append (fresh n m R F) plan (a ∷ []) ∙ rw (← reached-table h, s .number, reached-whole h, append-nil)
 
   module _ {p s b' s' : List ℕ} {k : ℕ} (a : RunAnswer b p s k b' s') where
-    pub then-run : Reached n m R (plan ++ pieces k p) (replies ++ take (8 * k) s') b'
+    pub then-run : Reached n m R F (plan ++ pieces k p) (replies ++ take (8 * k) s') b'
     then-run = record { given = h .given; first = h .first; filled = h .filled; calls = ran (h .calls) a }
 
     -- no reply that it writes is 24
     pub run-24 : (j : ℕ) → j < k → getD s' (8 * j) 0 ≢ 24
     run-24 j l e =
-        let before = play (fresh n m R) plan .replies in
+        let before = play (fresh n m R F) plan .replies in
         let place : 8 * (length before + j) ≡ length replies + 8 * j = omega (arith, ap length (reached-replies h), length-bytes before) in
         reached-24 then-run (length before + j)
         (rw place (getD-append-add replies (take (8 * k) s') (8 * j) 0 ∙ getD-take (8 * k) s' (8 * j) 0 (omega arith) ∙ e))
 
     -- the terms that it wins are those of the algorithm's run on the table in the slice
-    pub run-won : wonAlong (fresh n m R) (plan ++ pieces k p) ≡ wonAlong (fresh n m R) plan ++ wonAlong (tableIn b) (pieces k p)
-    run-won = won-append (fresh n m R) plan (pieces k p) ∙ rw (← reached-table h)
+    pub run-won : wonAlong (fresh n m R F) (plan ++ pieces k p) ≡ wonAlong (fresh n m R F) plan ++ wonAlong (tableIn b) (pieces k p)
+    run-won = won-append (fresh n m R F) plan (pieces k p) ∙ rw (← reached-table h)
 
 -- ---- an evening and a morning
 
@@ -199,8 +203,8 @@ steps b t sound before rs h (a ∷ plan) =
     (steps b (o .table) (play-sound t (a ∷ []) sound) (before ++ (a ∷ [])) (rs ++ replyBytes (answered o)) (rw (carried-eight (step-carried t a)) at (stepped h s)) plan)
 
 -- every list of actions can be judged, by steps alone
-pub can-reach : (n m R : ℕ) {b b' : List ℕ} → FreshAnswer b n m R 0 b' → (plan : List (List ℕ))
-    → Reached n m R plan (repliesBytes (play (fresh n m R) plan .replies)) (stored (play (fresh n m R) plan .table))
-can-reach n m R {b} {b'} f plan =
-    let t = fresh n m R in
+pub can-reach : (n m R F : ℕ) {b b' : List ℕ} → FreshAnswer b n m R F 0 b' → (plan : List (List ℕ))
+    → Reached n m R F plan (repliesBytes (play (fresh n m R F) plan .replies)) (stored (play (fresh n m R F) plan .table))
+can-reach n m R F {b} {b'} f plan =
+    let t = fresh n m R F in
     record { given = b; first = b'; filled = f; calls = steps b' t (filled-sound f) [] [] (subst (λ (c : List ℕ). Calls b' [] [] c) (filled-bytes f) none) plan }

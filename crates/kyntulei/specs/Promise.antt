@@ -8,32 +8,35 @@ use lib.ListN.{length, drop, replicate, take}
 use Rattle.words.specs.Words.{valueOf, eight}
 use Rattle.words.specs.Refusal.{nothing, Refusal, refuse, first, Answer, answer, unlessRefused}
 use Rattle.members.specs.Members.{within}
-use Rattle.algorithm.specs.Table.{soundCount, soundRule, fresh}
+use Rattle.algorithm.specs.Table.{soundCount, soundRule, soundFloor, fresh}
 use Rattle.algorithm.specs.Run.{replyBytes, repliesBytes, answered, step, runTo, pieces}
 use Rattle.table.specs.Layout.{tableBytes, stored, tableIn, whole}
 use Rattle.engine.specs.Engine.{played}
 use Rattle.reader.specs.Reader.{ReadAnswer}
 use Rattle.writer.specs.Writer.{WriteAnswer}
 
--- ---- a fresh table of n servers with the set m under the rule R, into the slice b
+-- ---- a fresh table of n servers with the set m, under the rule R and with the floor F, into the slice b
 
--- in this order: 1 for another length or a rule above 1, 32 for n outside 1 to 16, 5 for an empty set or one with a bit above n
-abbrev pub freshRefusals : List ℕ → ℕ → ℕ → ℕ → List Refusal
-freshRefusals b n m R =
-    refuse 1 (not (eqb (length b) tableBytes) || not (soundRule R)) ∷ refuse 32 (not (soundCount n)) ∷ refuse 5 (not (within m n)) ∷ []
+-- in this order: 1 for another length, a rule above 1 or a floor above 16, 32 for n outside 1 to 16, 5 for an empty set or one with a bit above n
+abbrev pub freshRefusals : List ℕ → ℕ → ℕ → ℕ → ℕ → List Refusal
+freshRefusals b n m R F =
+    refuse 1 (not (eqb (length b) tableBytes) || not (soundRule R) || not (soundFloor F))
+    ∷ refuse 32 (not (soundCount n))
+    ∷ refuse 5 (not (within m n))
+    ∷ []
 
 -- the first of them, or 0
-abbrev pub freshReply : List ℕ → ℕ → ℕ → ℕ → ℕ
-freshReply b n m R = first (freshRefusals b n m R)
+abbrev pub freshReply : List ℕ → ℕ → ℕ → ℕ → ℕ → ℕ
+freshReply b n m R F = first (freshRefusals b n m R F)
 
 -- the slice afterwards: the bytes of a fresh table, or as it was
-abbrev pub freshBytes : List ℕ → ℕ → ℕ → ℕ → List ℕ
-freshBytes b n m R = unlessRefused (freshReply b n m R) (stored (fresh n m R)) b
+abbrev pub freshBytes : List ℕ → ℕ → ℕ → ℕ → ℕ → List ℕ
+freshBytes b n m R F = unlessRefused (freshReply b n m R F) (stored (fresh n m R F)) b
 
 -- the reply r, and the slice b' at exit
-pub record FreshAnswer (b : List ℕ) (n m R r : ℕ) (b' : List ℕ) : Type 0 where
-  pub reply : r ≡ freshReply b n m R
-  pub bytes : b' ≡ freshBytes b n m R
+pub record FreshAnswer (b : List ℕ) (n m R F r : ℕ) (b' : List ℕ) : Type 0 where
+  pub reply : r ≡ freshReply b n m R F
+  pub bytes : b' ≡ freshBytes b n m R F
 
 -- ---- the action a on the slice b
 
@@ -87,11 +90,11 @@ pub data Calls (b : List ℕ) : List (List ℕ) → List ℕ → List ℕ → Ty
   unread : {plan : List (List ℕ)} {replies c c' : List ℕ} {r : ℕ} → Calls b plan replies c
       → (im : List ℕ) (e e' : ℕ) → ReadAnswer im c e r c' e' → 0 < r → Calls b plan replies c'
   unfilled : {plan : List (List ℕ)} {replies c c' : List ℕ} {r : ℕ} → Calls b plan replies c
-      → (n m R : ℕ) → FreshAnswer c n m R r c' → 0 < r → Calls b plan replies c'
+      → (n m R F : ℕ) → FreshAnswer c n m R F r c' → 0 < r → Calls b plan replies c'
 
--- A slice is filled with a fresh table of n servers with the set m under the rule R, and calls lead from it to the slice b.
-pub record Reached (n m R : ℕ) (plan : List (List ℕ)) (replies b : List ℕ) : Type 0 where
+-- A slice is filled with a fresh table of n servers with the set m, under the rule R and with the floor F, and calls lead from it to the slice b.
+pub record Reached (n m R F : ℕ) (plan : List (List ℕ)) (replies b : List ℕ) : Type 0 where
   pub given : List ℕ
   pub first : List ℕ
-  pub filled : FreshAnswer given n m R 0 first
+  pub filled : FreshAnswer given n m R F 0 first
   pub calls : Calls first plan replies b

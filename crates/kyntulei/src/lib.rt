@@ -28,13 +28,16 @@ pub extern "C" fn kyntulei_table_bytes() -> usize
 }
 
 // The reply's number, before anything is written.
-fn judge_fresh(table: &[u8], n: u32, set: u32, rule: u32) -> u32
-    ensures { λ r. ⌜ r ≡ freshReply (now (table .entry)) n set rule ⌝ }
+fn judge_fresh(table: &[u8], n: u32, set: u32, rule: u32, floor: u32) -> u32
+    ensures { λ r. ⌜ r ≡ freshReply (now (table .entry)) n set rule floor ⌝ }
 {
     if table.len() != BYTES {
         return 1;
     }
     if RULE_2 < rule {
+        return 1;
+    }
+    if MOST < floor {
         return 1;
     }
     if n == 0 {
@@ -50,14 +53,14 @@ fn judge_fresh(table: &[u8], n: u32, set: u32, rule: u32) -> u32
 }
 
 #[no_mangle]
-pub extern "C" fn kyntulei_fresh(table: &mut [u8], n: u32, set: u32, rule: u32) -> u32
-    ensures { λ r. ⌜ FreshAnswer (now (table .entry)) n set rule r (now (table .exit)) ⌝ }
+pub extern "C" fn kyntulei_fresh(table: &mut [u8], n: u32, set: u32, rule: u32, floor: u32) -> u32
+    ensures { λ r. ⌜ FreshAnswer (now (table .entry)) n set rule floor r (now (table .exit)) ⌝ }
 {
-    let number = judge_fresh(table, n, set, rule);
+    let number = judge_fresh(table, n, set, rule, floor);
     if number != 0 {
         return number;
     }
-    fill_fresh(table, n as u8, set as u16, rule as u8);
+    fill_fresh(table, n as u8, set as u16, rule as u8, floor as u8);
     0
 }
 

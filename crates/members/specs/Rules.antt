@@ -32,6 +32,12 @@ abbrev pub mayFollow : ℕ → ℕ → ℕ → Bool
 mayFollow zero old new = oneApart old new
 mayFollow (suc k) old new = allMeet old new
 
+-- ---- the floor
+
+-- the set has fewer members than the floor
+abbrev pub belowFloor : ℕ → ℕ → Bool
+belowFloor floor new = ltb (ones new) floor
+
 -- ---- the lowest pair of majorities apart
 
 -- q is a majority of a, r is one of b, and no server is in both

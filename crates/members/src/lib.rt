@@ -5,7 +5,7 @@ pub mod sheet;
 ghost use mathlib.Core.Path.{_≡_};
 ghost use Prim.Native.Nat.{_^_, _<_};
 ghost use Rattle.members.specs.Members.{member, majority, oneApart, within, withNext, lowestUpTo};
-ghost use Rattle.members.specs.Rules.{allMeet, mayFollow};
+ghost use Rattle.members.specs.Rules.{allMeet, mayFollow, belowFloor};
 use sheet::least_shared;
 
 // Server s is in m.
@@ -57,6 +57,13 @@ pub fn may_follow(rule: u32, old: u16, new: u16) -> bool
         return is_one_apart(old, new);
     }
     all_meet(old, new)
+}
+
+// The set `new` has fewer members than the floor.
+pub fn is_below(floor: u32, new: u16) -> bool
+    ensures { λ r. ⌜ r ≡ belowFloor floor new ⌝ }
+{
+    u16::count_ones(new) < floor
 }
 
 // The set m of servers 1 to k, and server k + 1 if b: how a loop over the servers builds the set of those that pass a test.

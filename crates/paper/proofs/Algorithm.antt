@@ -12,7 +12,7 @@ use Rattle.algorithm.specs.Table.{Table, count, broken, freshServer, fresh}
 use Rattle.algorithm.specs.Run.{step}
 use Rattle.algorithm.proofs.Seen.{view}
 use Rattle.algorithm.proofs.Sound.{SoundTable, table-sound}
-use Rattle.algorithm.proofs.Runs.{step-rule}
+use Rattle.algorithm.proofs.Runs.{step-rule, step-floor}
 use Rattle.algorithm.proofs.Taken.{moves}
 use Rattle.algorithm.proofs.Kept.{step-sound, fresh-sound}
 use Rattle.algorithm.proofs.Safe.{Safe, safe-fresh, safe-moves}
@@ -36,29 +36,29 @@ Shows t s = AlikeAt (IsServer (shown t)) (shown t) s
 -- ---- a table follows
 
 -- where demand 3's invariants hold, only other actions than commits have to be narrowed
-narrowed : (R : ℕ) (t : Table) → Fails (broken t) → Safe (view t) → (a : Action) → OnServers (shown t) a → Requires (shown t) a → Commits a
-    → Narrowed R (shown t) a
-narrowed R t sound safe a on can (i, Q, e) =
-    subst (λ (b : Action). OnServers (shown t) b → Requires (shown t) b → Narrowed R (shown t) b) (sym e)
+narrowed : (R F : ℕ) (t : Table) → Fails (broken t) → Safe (view t) → (a : Action) → OnServers (shown t) a → Requires (shown t) a → Commits a
+    → Narrowed R F (shown t) a
+narrowed R F t sound safe a on can (i, Q, e) =
+    subst (λ (b : Action). OnServers (shown t) b → Requires (shown t) b → Narrowed R F (shown t) b) (sym e)
     (λ on can. commit-free t (table-sound sound) safe i on Q can) on can
 
--- a table whose invariants hold follows steps under its rule to another
-follow : {R : ℕ} {s z : State} (t : Table) → t .rule ≡ R → Fails (broken t) → Safe (view t) → Shows t s → NarrowSteps R s z
+-- a table whose invariants hold follows steps under its rule and with its floor to another
+follow : {R F : ℕ} {s z : State} (t : Table) → t .rule ≡ R → t .floor ≡ F → Fails (broken t) → Safe (view t) → Shows t s → NarrowSteps R F s z
     → (x : Table) × SoundTable x × Safe (view x) × Shows x z
-follow t rule sound safe near none = (t, table-sound sound, safe, near)
-follow {R} t rule sound safe near (then {s} {s′} a on binds step-of rest) =
+follow t rule floor sound safe near none = (t, table-sound sound, safe, near)
+follow {R} {F} t rule floor sound safe near (then {s} {s′} a on binds step-of rest) =
     let its : (i : ℕ) → IsServer (shown t) i → OfServers (shown t) (shown t .config i) = config-servers t sound in
     let on-t : OnServers (shown t) a = rw (near .servers) at on in
     let can : Requires (shown t) a = near-requires s (shown t) near its a on-t (step-of .requires) in
-    let (bs, e, led) = goes t sound a on-t can (rw rule (⊎-elim (near-narrowed s (shown t) near its R a on-t) (narrowed R t sound safe a on-t can) binds)) in
+    let (bs, e, led) = goes t sound a on-t can (rw (rule, floor) (⊎-elim (near-narrowed s (shown t) near its R F a on-t) (narrowed R F t sound safe a on-t can) binds)) in
     let next : AlikeAt (IsServer (shown t)) (shown (step t bs .table)) s′ =
     near-assigns (IsServer (shown t)) (shown t) s (shown (step t bs .table)) s′ near (led .servers) (step-of .servers) a on-t (led .assigns) (step-of .assigns) in
     let shows : Shows (step t bs .table) s′ = over (shown (step t bs .table)) s′ (sym (led .servers)) next in
-    follow (step t bs .table) (step-rule t bs ∙ rule) (step-sound t bs sound) (safe-moves (moves t bs) safe) shows rest
+    follow (step t bs .table) (step-rule t bs ∙ rule) (step-floor t bs ∙ floor) (step-sound t bs sound) (safe-moves (moves t bs) safe) shows rest
 
 -- ---- the paper's initial state is a fresh table's
 
-module _ (R : ℕ) (s : State) (m : Set) (init : Initial s m) where
+module _ (R F : ℕ) (s : State) (m : Set) (init : Initial s m) where
   abbrev n : ℕ
   n = s .servers
 
@@ -68,12 +68,12 @@ module _ (R : ℕ) (s : State) (m : Set) (init : Initial s m) where
   fits : Passes (within M n)
   fits = mask-within n m (init .servers) (init .some .0) (init .some .1)
 
-  counted : count (fresh n M R) ≡ n
+  counted : count (fresh n M R F) ≡ n
   counted = length-replicate n (freshServer M)
 
-  start : Shows (fresh n M R) s
+  start : Shows (fresh n M R F) s
   start =
-      let f : Initial (shown (fresh n M R)) (setShown M) = fresh-initial n M R fits in
+      let f : Initial (shown (fresh n M R F)) (setShown M) = fresh-initial n M R F fits in
       record {
         servers = sym counted;
         term = λ j h. init .term j (rw counted at h) ∙ sym (f .term j h);
@@ -99,12 +99,13 @@ module _ (v : State) {z : State} (near : AlikeAt (IsServer v) v z) where
       let x : IsServer v i = rw (near .servers) at a in
       rw (near .log i x) (f i x p u (near .committed p u .0 c) (sym (near .state i x) ∙ leads, omega (arith, near .term i x)))
 
-module _ (R : ℕ) (rule : R ≤ 1) (s z : State) (m : Set) (few : s .servers ≤ 16) (init : Initial s m) (steps : NarrowSteps R s z) where
+module _ (R F : ℕ) (rule : R ≤ 1) (floor : F ≤ 16) (s z : State) (m : Set) (few : s .servers ≤ 16) (init : Initial s m) (steps : NarrowSteps R F s z) where
   followed : (x : Table) × SoundTable x × Safe (view x) × Shows x z
   followed =
       let (a, b) = init .servers (init .some .0) (init .some .1) in
       let M : ℕ = mask (s .servers) m in
-      follow (fresh (s .servers) M R) refl (fresh-sound (s .servers) M R (omega arith) few (fits R s m init) rule) (safe-fresh (s .servers) M R) (start R s m init) steps
+      follow (fresh (s .servers) M R F) refl refl (fresh-sound (s .servers) M R F (omega arith) few (fits R F s m init) rule floor) (safe-fresh (s .servers) M R F)
+      (start R F s m init) steps
 
   -- Lemma 1
   pub lemma-1 : ElectionSafety z

@@ -24,7 +24,7 @@ one-entry role u = serverWith role 2 (configOf 7 1 2) (entries (u ∷ []))
 
 -- a leader with an entry of term 1, and two voters with one of term 2
 abbrev pub split : Table
-split = withServers (one-entry 1 1 ∷ one-entry 0 2 ∷ one-entry 0 2 ∷ []) (fresh 3 7 0)
+split = withServers (one-entry 1 1 ∷ one-entry 0 2 ∷ one-entry 0 2 ∷ []) (fresh 3 7 0 0)
 
 -- the table breaks no rule
 pub split-sound : Fails (broken split)

@@ -6,12 +6,13 @@ use mathlib.Core.Logic.{_⊎_, inl, inr, ⊎-elim, _≢_, _↔_, Iff·trans}
 use mathlib.Core.Path.{_≡_, sym, ap, _∙_, refl}
 use native.Mathlib.Omega.{arith}
 use lib.Dec.{ltb, eqb}
+use lib.Count.{ones}
 use lib.ListN.{length}
 use Rattle.words.specs.Refusal.{refuse}
 use Rattle.words.proofs.Tests.{Passes, Fails, either, first-of, second-of, neither, refuted, unrefuted, contradiction, fails, both-refuted, equal, less, at-most, above, is-equal, is-less, both, together, one-refuted, unequal, not-less, is-at-most}
 use Rattle.words.proofs.RefusalLaws.{NoneHold, none-before}
 use Rattle.members.specs.Members.{Member, member, within, majority, mostPass}
-use Rattle.members.specs.Rules.{MajoritiesMeet, mayFollow}
+use Rattle.members.specs.Rules.{MajoritiesMeet, mayFollow, belowFloor}
 use Rattle.members.proofs.Said.{All}
 use Rattle.members.proofs.Masks.{member-pos}
 use Rattle.members.proofs.Majorities.{majority-is, is-majority, all-meet, one-apart, most-map, none-passes, most-pass, pass-most}
@@ -24,11 +25,11 @@ use Rattle.algorithm.proofs.Sound.{SoundTable, here-sound, SoundServer}
 use Rattle.algorithm.proofs.Logs.{HasEntry}
 use Rattle.algorithm.proofs.Seen.{within-width}
 use Rattle.algorithm.proofs.Taken.{is-held, some-marked, holds-marked, mark-range, can-commit}
-use Rattle.paper.specs.Paper.{at, IsPrefix, SendConfig, UpdateTerms, GetEntries, RollbackEntries, ClientRequest, Set, _∈_, OfServers, Quorums, QuorumsOverlap, LogGeq, IsCommitted, C, NotNewer, Q1, Q2, P1b, Reconfig, BecomeLeader, CommitEntry}
+use Rattle.paper.specs.Paper.{at, IsPrefix, SendConfig, UpdateTerms, GetEntries, RollbackEntries, ClientRequest, Set, _∈_, size, OfServers, Quorums, QuorumsOverlap, LogGeq, IsCommitted, C, NotNewer, Q1, Q2, P1b, Reconfig, BecomeLeader, CommitEntry}
 use Rattle.paper.specs.Shown.{logShown, setShown, shown}
-use Rattle.paper.specs.Narrowings.{MarkedOnce, SingleChange, OwnCommit}
+use Rattle.paper.specs.Narrowings.{MarkedOnce, SingleChange, AboveFloor, OwnCommit}
 use Rattle.paper.proofs.Figures.{none-of, role-primary, role-secondary, later-is, length-shown, at-shown, last-shown, empty-shown, ends, term-order, prefix-is, later-not, not-newer-is, Exactly, AllFail, Allows, in-log, marked-some, marked-holds, none-some}
-use Rattle.paper.proofs.Quorum.{most-of, of-most, quorum-is, is-quorum, overlap, apart-is}
+use Rattle.paper.proofs.Quorum.{size-ones, most-of, of-most, quorum-is, is-quorum, overlap, apart-is}
 
 module _ (t : Table) (sound : SoundTable t) (i : ℕ) where
   abbrev a : Server
@@ -204,6 +205,9 @@ module _ (t : Table) (sound : SoundTable t) (i : ℕ) where
         overlaps : MajoritiesMeet (a .config .set) q ↔ QuorumsOverlap (shown t) (setShown (a .config .set)) (setShown q)
         overlaps = overlap (shown t) (a .config .set) q set-width width
 
+        sized : size (count t) (setShown q) ≡ ones q
+        sized = size-ones (count t) width
+
         some : {m : ℕ} → Passes (within m (count t)) → 0 < m
         some {m} w = less (both {a = ltb 0 m} w .0)
 
@@ -231,13 +235,14 @@ module _ (t : Table) (sound : SoundTable t) (i : ℕ) where
             let (same, holds) = both (all j v) in
             (in-log t j p (a .term) .0 (holds-marked t (a .term) (server t j .log) positions holds p low high (marked ∙ z)), equal same) in
             let (over, single) = follows (t .rule) .0 (refuted (none 13)) in
+            let enough : AboveFloor (t .floor) (shown t) (setShown q) = omega (arith, sized, not-less {a = ones q} {b = t .floor} (none 25)) in
             let of : OfServers (shown t) (setShown q) = λ x u. (member-pos x q u, within-is sets .all x u) in (
               (of, role-primary whole .0 (refuted (none 6)), (first, second, (Q, quorum, (inr own, kept))), over),
-              (omega (arith, whole .config .version), in-set .yes, single, own),
+              (omega (arith, whole .config .version), in-set .yes, single, enough, own),
             )
 
         back : Allows t (Reconfig i (setShown q)) → AllFail (reconfigureRefusals t i q)
-        back ((_, leads, ((Q, quorum, all), (Q′, quorum′, all′), (R, quorum″, (_, kept))), over), (below, self, single, (p, u, ((marked, o), z)))) =
+        back ((_, leads, ((Q, quorum, all), (Q′, quorum′, all′), (R, quorum″, (_, kept))), over), (below, self, single, enough, (p, u, ((marked, o), z)))) =
             let positive : 0 < a .term = omega arith in
             let last-version : Fails (eqb (a .config .version) ceiling) = fails (λ y. let top : a .config .version ≡ ceiling = equal y in omega arith) in
             let first = quorum-passes (sameConfig t i) Q quorum (λ j v. let (e, f) = all j v in together (is-equal e) (is-equal f)) in
@@ -248,4 +253,5 @@ module _ (t : Table) (sound : SoundTable t) (i : ℕ) where
             let own = unrefuted (together (marked-some (t .marks) (a .term) p positive (marked ∙ z)) third) in
             let stays : Fails (not (member i q)) = unrefuted {b = member i q} (record { yes = self }) in
             let set-fits = unrefuted (follows (t .rule) .1 (over, single)) in
-            (unrefuted (role-primary whole .1 leads), (last-version, (stays, (set-fits, (unrefuted first, (unrefuted second, (own, tt)))))))
+            let not-below : Fails (belowFloor (t .floor) q) = fails (λ y. let fewer : ones q < t .floor = less y in omega (arith, sized)) in
+            (unrefuted (role-primary whole .1 leads), (last-version, (stays, (set-fits, (not-below, (unrefuted first, (unrefuted second, (own, tt))))))))

@@ -163,7 +163,7 @@ first-all (r ∷ rs) (h, f) = rw (fails-false h) (first-all rs f)
 
 -- the paper allows the action in the state that the table shows, and no narrowing forbids it
 abbrev pub Allows : Table → Action → Type 0
-Allows t a = Requires (shown t) a × Narrowed (t .rule) (shown t) a
+Allows t a = Requires (shown t) a × Narrowed (t .rule) (t .floor) (shown t) a
 
 -- where none of its refusals holds, an action is allowed; where it is, each of them fails
 abbrev pub Exactly : Table → List Refusal → Action → Type 0

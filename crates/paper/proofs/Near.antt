@@ -84,16 +84,16 @@ module _ (s z : State) (near : AlikeAt (IsServer z) z s) (sets-of : (i : ℕ) �
   near-single (suc k) i h new single = single
 
   -- what is not forbidden in s is not in z
-  pub near-narrowed : (R : ℕ) (a : Action) → OnServers z a → Narrowed R s a → Narrowed R z a
-  near-narrowed R (Reconfig i new) h (top, self, single, (p, u, c)) =
-      (omega (arith, near .configVersion i h), self, near-single R i h new single, (p, u, own-commit i h p u c))
-  near-narrowed R (SendConfig i j) h n = n
-  near-narrowed R (BecomeLeader i Q) h top = omega (arith, near .term i h)
-  near-narrowed R (UpdateTerms i j) h n = n
-  near-narrowed R (ClientRequest i) h room = rw (near .log i h) at room
-  near-narrowed R (GetEntries i j) h n = n
-  near-narrowed R (RollbackEntries i j) h n = n
-  near-narrowed R (CommitEntry i Q) h (own, once) = (
+  pub near-narrowed : (R F : ℕ) (a : Action) → OnServers z a → Narrowed R F s a → Narrowed R F z a
+  near-narrowed R F (Reconfig i new) h (top, self, single, above, (p, u, c)) =
+      (omega (arith, near .configVersion i h), self, near-single R i h new single, rw (near .servers) at above, (p, u, own-commit i h p u c))
+  near-narrowed R F (SendConfig i j) h n = n
+  near-narrowed R F (BecomeLeader i Q) h top = omega (arith, near .term i h)
+  near-narrowed R F (UpdateTerms i j) h n = n
+  near-narrowed R F (ClientRequest i) h room = rw (near .log i h) at room
+  near-narrowed R F (GetEntries i j) h n = n
+  near-narrowed R F (RollbackEntries i j) h n = n
+  near-narrowed R F (CommitEntry i Q) h (own, once) = (
     rw (near .log i h, near .term i h) at own,
     λ u c. once u (near .committed (length (s .log i)) u .1 (rw (near .log i h) c)) ∙ near .term i h,
   )

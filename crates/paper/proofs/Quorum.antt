@@ -28,7 +28,8 @@ unfolding size count
 size-count zero S = refl
 size-count (suc k) S = omega (arith, digit (S (suc k)), size-count k S)
 
-size-ones : (n : ℕ) {m : ℕ} → m < 2 ^ n → size n (setShown m) ≡ ones m
+-- a mask of servers 1 to n has as many members as the set that it shows
+pub size-ones : (n : ℕ) {m : ℕ} → m < 2 ^ n → size n (setShown m) ≡ ones m
 size-ones n {m} w = size-count n (setShown m) ∙ sym (ones-count n w)
 
 module _ (s : State) (m : ℕ) (width : m < 2 ^ s .servers) where

@@ -59,14 +59,14 @@ runs t (bs ∷ p) = go (ℕ-discrete (step t bs .number) 0) (runs (step t bs .ta
 
 -- ---- a fresh table
 
-module _ (n M R : ℕ) (set : Passes (within M n)) where
-  server-fresh : (i : ℕ) → 1 ≤ i → i ≤ count (fresh n M R) → server (fresh n M R) i ≡ freshServer M
+module _ (n M R F : ℕ) (set : Passes (within M n)) where
+  server-fresh : (i : ℕ) → 1 ≤ i → i ≤ count (fresh n M R F) → server (fresh n M R F) i ≡ freshServer M
   unfolding nth
   server-fresh zero a b = absurd (omega arith)
   server-fresh (suc k) a b = getD-replicate n k (freshServer M) absent (omega (arith, length-replicate n (freshServer M)))
 
   -- a fresh table shows the paper's initial state, with m_init the set M
-  pub fresh-initial : Initial (shown (fresh n M R)) (setShown M)
+  pub fresh-initial : Initial (shown (fresh n M R F)) (setShown M)
   fresh-initial = record {
     some = within-is set .some;
     servers = λ x u. (member-pos x M u, omega (arith, within-is set .all x u, length-replicate n (freshServer M)));
@@ -76,7 +76,7 @@ module _ (n M R : ℕ) (set : Passes (within M n)) where
     configVersion = λ i (a, b). ap (λ (s : Server). s .config .version) (server-fresh i a b);
     configTerm = λ i (a, b). ap (λ (s : Server). s .config .term) (server-fresh i a b);
     log = λ i (a, b). ap (λ (s : Server). logShown (s .log)) (server-fresh i a b);
-    committed = λ p u (m, o). no-mark n M R (record { is = m; positive = o });
+    committed = λ p u (m, o). no-mark n M R F (record { is = m; positive = o });
   }
 
 -- ---- what a table shows that the invariants of demand 3 hold of
@@ -129,7 +129,7 @@ module _ (z : Table) (sound : SoundTable z) (safe : Safe (view z)) where
       held = most .all;
     }
 
-    pub commit-free : Narrowed (z .rule) (shown z) (CommitEntry i Q)
+    pub commit-free : Narrowed (z .rule) (z .floor) (shown z) (CommitEntry i Q)
     commit-free = (
       last-shown l ∙ held .is,
       λ v (m, o).
@@ -142,25 +142,25 @@ module _ (z : Table) (sound : SoundTable z) (safe : Safe (view z)) where
 pub play-safe : (t : Table) (p : List (List ℕ)) → Safe (view t) → Safe (view (play t p .table))
 play-safe t p = play-keeps (λ t. Safe (view t)) (λ t a. safe-moves (moves t a)) t p
 
-module _ (n M R : ℕ) (some : 1 ≤ n) (few : n ≤ 16) (set : Passes (within M n)) (rule : R ≤ 1) (plan : List ℕ) (k : ℕ) where
+module _ (n M R F : ℕ) (some : 1 ≤ n) (few : n ≤ 16) (set : Passes (within M n)) (rule : R ≤ 1) (floor : F ≤ 16) (plan : List ℕ) (k : ℕ) where
   -- the state after the first k actions of a plan
   abbrev pub reached : State
-  reached = shown (runTo k (fresh n M R) plan .table)
+  reached = shown (runTo k (fresh n M R F) plan .table)
 
-  sound : SoundTable (runTo k (fresh n M R) plan .table)
-  sound = table-sound (play-keeps (λ t. Fails (broken t)) step-sound (fresh n M R) (pieces k plan) (fresh-sound n M R some few set rule))
+  sound : SoundTable (runTo k (fresh n M R F) plan .table)
+  sound = table-sound (play-keeps (λ t. Fails (broken t)) step-sound (fresh n M R F) (pieces k plan) (fresh-sound n M R F some few set rule floor))
 
-  safe : Safe (view (runTo k (fresh n M R) plan .table))
-  safe = play-safe (fresh n M R) (pieces k plan) (safe-fresh n M R)
+  safe : Safe (view (runTo k (fresh n M R F) plan .table))
+  safe = play-safe (fresh n M R F) (pieces k plan) (safe-fresh n M R F)
 
   -- Lemma 1
   pub election-safety : ElectionSafety reached
-  election-safety = election-safe (runTo k (fresh n M R) plan .table) sound safe
+  election-safety = election-safe (runTo k (fresh n M R F) plan .table) sound safe
 
   -- Theorem 2
   pub leader-completeness : LeaderCompleteness reached
-  leader-completeness = leader-complete (runTo k (fresh n M R) plan .table) sound safe
+  leader-completeness = leader-complete (runTo k (fresh n M R F) plan .table) sound safe
 
   -- a commit that Algorithm 2 allows is not narrowed
-  pub commit-not-narrowed : (i : ℕ) → IsServer reached i → (Q : Set) → Requires reached (CommitEntry i Q) → Narrowed R reached (CommitEntry i Q)
-  commit-not-narrowed = commit-free (runTo k (fresh n M R) plan .table) sound safe
+  pub commit-not-narrowed : (i : ℕ) → IsServer reached i → (Q : Set) → Requires reached (CommitEntry i Q) → Narrowed R F reached (CommitEntry i Q)
+  commit-not-narrowed = commit-free (runTo k (fresh n M R F) plan .table) sound safe

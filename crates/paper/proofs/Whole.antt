@@ -69,8 +69,8 @@ module _ (t : Table) (sound : Fails (broken t)) where
     code-set = ap setShown code-is ∙ mask-shown n Q inside
 
     -- what is allowed with Q is allowed with the set of the two bytes
-    coded : (A : Set → Action) → Requires s (A Q) → Narrowed (t .rule) s (A Q) → Requires s (A (setShown code)) × Narrowed (t .rule) s (A (setShown code))
-    coded A can narrow = subst (λ (S : Set). Requires s (A S) × Narrowed (t .rule) s (A S)) (sym code-set) (can, narrow)
+    coded : (A : Set → Action) → Requires s (A Q) → Narrowed (t .rule) (t .floor) s (A Q) → Requires s (A (setShown code)) × Narrowed (t .rule) (t .floor) s (A (setShown code))
+    coded A can narrow = subst (λ (S : Set). Requires s (A S) × Narrowed (t .rule) (t .floor) s (A S)) (sym code-set) (can, narrow)
 
   -- ---- kinds that use a set
 
@@ -96,7 +96,7 @@ module _ (t : Table) (sound : Fails (broken t)) where
   well-formed bs (form, allowed) = taken-exactly t bs sound .1 (none-all (formRefusals n bs) form, allowed)
 
   -- each action has its bytes, and they are taken
-  pub bytes : (b : Action) → OnServers s b → Requires s b → Narrowed (t .rule) s b
+  pub bytes : (b : Action) → OnServers s b → Requires s b → Narrowed (t .rule) (t .floor) s b
       → (bs : List ℕ) × (step t bs .number ≡ 0) × OfPaper (λ c. c ≡ b) (actionOf bs) × (timesAsked (actionOf bs) ≡ 1)
   bytes (BecomeLeader i Q) h can narrow =
       let inside : OfServers s Q = quorum-servers i h Q (can .0) in
@@ -129,13 +129,13 @@ module _ (t : Table) (sound : Fails (broken t)) where
   bytes (RollbackEntries i j) (h, g) can narrow = (actionBytes 7 i j 0, well-formed (actionBytes 7 i j 0) (by-pair h g, (can, narrow)), refl, refl)
 
   -- and they lead where Algorithm 2 leads
-  pub goes : (b : Action) → OnServers s b → Requires s b → Narrowed (t .rule) s b → (bs : List ℕ) × (step t bs .number ≡ 0) × Step s b (shown (step t bs .table))
+  pub goes : (b : Action) → OnServers s b → Requires s b → Narrowed (t .rule) (t .floor) s b → (bs : List ℕ) × (step t bs .number ≡ 0) × Step s b (shown (step t bs .table))
   goes b on can narrow =
       let (bs, e, named, single) = bytes b on can narrow in
       let (c, same, led) = both-of (λ c. c ≡ b) (λ c. UpTo (timesAsked (actionOf bs)) c t (step t bs .table)) (actionOf bs) named (taken-leads t bs e) in
       (bs, e, subst (λ (x : Action). Step s x (shown (step t bs .table))) same (one-step (omega (arith, led .some, led .most)) (led .steps)))
 
   -- whatever state narrowed Algorithm 2 goes to, the table goes there too
-  pub matched : (b : Action) → OnServers s b → Narrowed (t .rule) s b → (z : State) → Step s b z
+  pub matched : (b : Action) → OnServers s b → Narrowed (t .rule) (t .floor) s b → (z : State) → Step s b z
       → (bs : List ℕ) × (step t bs .number ≡ 0) × Alike z (shown (step t bs .table))
   matched b on narrow z h = let (bs, e, led) = goes b on (h .requires) narrow in (bs, e, step-once h led)

@@ -44,7 +44,9 @@ pub data Steps : State → State → Type 1 where
 abbrev pub Commits : Action → Type 0
 Commits a = (i : ℕ) × (Q : Set) × (a ≡ CommitEntry i Q)
 
--- steps under the rule R, each by servers, and not forbidden unless it is a commit: the narrowings of a commit ask nothing in a state that is reached
-pub data NarrowSteps (R : ℕ) : State → State → Type 1 where
-  none : {s : State} → NarrowSteps R s s
-  then : {s s′ s″ : State} (a : Action) → OnServers s a → Narrowed R s a ⊎ Commits a → Step s a s′ → NarrowSteps R s′ s″ → NarrowSteps R s s″
+-- steps under the rule R and with the floor F, each by servers, and not forbidden unless it is a commit: the narrowings of a commit ask nothing in
+-- a state that is reached
+pub data NarrowSteps (R F : ℕ) : State → State → Type 1 where
+  none : {s : State} → NarrowSteps R F s s
+  then : {s s′ s″ : State} (a : Action) → OnServers s a → Narrowed R F s a ⊎ Commits a → Step s a s′ → NarrowSteps R F s′ s″
+      → NarrowSteps R F s s″

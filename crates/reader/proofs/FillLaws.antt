@@ -15,7 +15,7 @@ use Rattle.table.specs.declared.figures.Figures.{Figures}
 use Rattle.table.specs.Layout.{padded, tableIn}
 use Rattle.words.proofs.Lists.{replace-nth, nth-replaced}
 use Rattle.table.proofs.HeldLaws.{its-table, held, again}
-use Rattle.image.specs.Contents.{countIn, ruleIn, body, marksIn, serverIn, Names, Named, Sized}
+use Rattle.image.specs.Contents.{countIn, ruleIn, floorIn, body, marksIn, serverIn, Names, Named, Sized}
 use Rattle.image.proofs.BodyLaws.{length-rest}
 use Rattle.reader.specs.Reader.{serversTo, readTable, unread}
 
@@ -185,10 +185,11 @@ module _ (im b : List ℕ) (n : ℕ) (e : n ≡ countIn im) where
 pub marks-named : (im : List ℕ) → Named im → Names im 0
 marks-named im h = h .each 0 (omega arith)
 
-pub blank-marks : (b : List ℕ) (n R : ℕ) → Holds b (blank n R) → tableIn b .marks ≡ replicate positions 0
-blank-marks b n R h = ap (λ (t : Table). t .marks) (its-table h)
+pub blank-marks : (b : List ℕ) (n R F : ℕ) → Holds b (blank n R F) → tableIn b .marks ≡ replicate positions 0
+blank-marks b n R F h = ap (λ (t : Table). t .marks) (its-table h)
 
-pub marks-unread : (im b b' d : List ℕ) → Holds b (blank (countIn im) (ruleIn im)) → d ≡ body im 0 → Became b b' (withMarks (marksIn d) (tableIn b))
+pub marks-unread : (im b b' d : List ℕ) → Holds b (blank (countIn im) (ruleIn im) (floorIn im)) → d ≡ body im 0
+    → Became b b' (withMarks (marksIn d) (tableIn b))
     → Holds b' (unread im)
 unfolding unread
 marks-unread im b b' d h p c = rw (its-table h, p) at (c .holds)

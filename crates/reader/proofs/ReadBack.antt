@@ -10,7 +10,7 @@ use lib.Seq.{take-suc, take-length, take-all}
 use borrow.Author.Tests.{le-ltb, le-leb, eq-eqb}
 use Rattle.words.specs.Refusal.{first}
 use Rattle.words.proofs.Tests.{Passes, together, is-equal, is-at-most, is-true}
-use Rattle.algorithm.specs.Table.{Server, Table, absent, count, ceiling, positions, soundServer, broken, trimmed, soundCount, withServers, withMarks}
+use Rattle.algorithm.specs.Table.{Server, Table, absent, count, ceiling, mostServers, positions, soundServer, broken, trimmed, soundCount, withServers, withMarks}
 use Rattle.words.specs.Lists.{nth, every, between}
 use Rattle.words.proofs.Lists.{every-nth}
 use Rattle.algorithm.proofs.Sound.{SoundTable, table-sound}
@@ -144,6 +144,7 @@ module _ (t : Table) (h : broken t ≡ false) where
           eq-eqb (length slice) tableBytes e,
           le-ltb (length im) 8 (omega (arith, long, length-image t)),
           le-leb (t .rule) 1 (rules .rule),
+          le-leb (t .floor) mostServers (rules .floor),
           is-true (soundCount (countIn im)) (some .yes),
           is-true (laidOut im) (laid-out .yes),
           is-true (soundBodies im) (all-sound .yes),

@@ -2,25 +2,28 @@
 use Prim.Native.Nat.{ℕ, zero, suc, _+_, _≤_, _<_}
 use native.Mathlib.Omega.{arith}
 use mathlib.Core.Path.{_≡_, sym, subst}
+use mathlib.Core.Bool.{_&&_}
 use mathlib.Core.List.{List, [], _∷_}
 use lib.Dec.{leb, eqb}
 use lib.ListN.{getD}
 use Rattle.words.proofs.Tests.{Passes, both, at-most}
 use Rattle.words.specs.Lists.{every, between}
-use Rattle.algorithm.specs.Table.{ceiling, positions, soundServer}
+use Rattle.algorithm.specs.Table.{ceiling, positions, mostServers, soundServer, soundRule}
 use Rattle.words.proofs.Lists.{every-cons, cons-every, every-plus}
 use Rattle.algorithm.proofs.Sound.{SoundTable}
 use Rattle.words.specs.Words.{words}
 use Rattle.table.specs.Layout.{padded}
 use Rattle.table.proofs.LayoutLaws.{length-padded}
-use Rattle.image.specs.Contents.{lettered, opened, countIn, ruleIn, body, serverIn, soundAt, soundBodies}
+use Rattle.image.specs.Contents.{lettered, opened, countIn, ruleIn, floorIn, body, serverIn, soundAt, soundBodies}
 use Rattle.reader.specs.Reader.{serversTo, readReply, readTable}
 use Rattle.words.proofs.BelowLaws.{all-below}
 use Rattle.reader.proofs.FillLaws.{length-servers}
 use Rattle.reader.proofs.ReplyLaws.{readable}
 
-opened-rule : (im : List ℕ) → Passes (opened im) → ruleIn im ≤ 1
-opened-rule im h = at-most (both {a = lettered im} h .1)
+opened-figures : (im : List ℕ) → Passes (opened im) → (ruleIn im ≤ 1) × (floorIn im ≤ mostServers)
+opened-figures im h =
+    let (front, floor) = both {a = lettered im && soundRule (ruleIn im)} h in
+    (at-most (both {a = lettered im} front .1), at-most floor)
 
 -- the 0 beyond the marks keep the rules too
 padded-sound : (k : ℕ) (l : List ℕ) → Passes (every (between 0 ceiling) l) → Passes (every (λ m. leb m ceiling) (padded k l))
@@ -52,5 +55,6 @@ read-sound im slice e =
       servers = subst (λ (k : ℕ). Passes (every (soundServer k) (serversTo n im))) (sym many) (servers-sound im each n (omega arith));
       full = length-padded positions (words (body im 0));
       marks = padded-sound positions (words (body im 0)) (both {a = every (between 0 ceiling) (words (body im 0))} (each 0 (omega arith)) .0);
-      rule = opened-rule im (r .opened);
+      rule = opened-figures im (r .opened) .0;
+      floor = opened-figures im (r .opened) .1;
     }

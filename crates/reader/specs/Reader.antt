@@ -9,7 +9,7 @@ use Rattle.words.specs.Refusal.{Refusal, refuse, first, unlessRefused}
 use Rattle.algorithm.specs.Table.{Server, Table, withMarks, soundCount}
 use Rattle.table.specs.Layout.{tableBytes, stored}
 use Rattle.table.specs.Slice.{blank}
-use Rattle.image.specs.Contents.{opened, countIn, ruleIn, stop, laidOut, body, marksIn, serverIn, soundBodies}
+use Rattle.image.specs.Contents.{opened, countIn, ruleIn, floorIn, stop, laidOut, body, marksIn, serverIn, soundBodies}
 
 -- the refusals for an image and the slice that a table is to be read into
 abbrev pub readRefusals : List ℕ → List ℕ → List Refusal
@@ -33,7 +33,7 @@ serversTo (suc k) im = serversTo k im ++ (serverIn (body im (suc k)) ∷ [])
 
 -- the table that is read, where nothing is refused
 abbrev pub readTable : List ℕ → Table
-readTable im = record { servers = serversTo (countIn im) im; marks = marksIn (body im 0); rule = ruleIn im }
+readTable im = record { servers = serversTo (countIn im) im; marks = marksIn (body im 0); rule = ruleIn im; floor = floorIn im }
 
 -- where the bytes after the image begin
 abbrev pub readEnd : List ℕ → ℕ
@@ -55,4 +55,4 @@ pub record ReadAnswer (im slice : List ℕ) (e r : ℕ) (slice' : List ℕ) (e' 
 
 -- the table read, but for its servers, of which nothing is known yet
 unfoldable pub unread : List ℕ → Table
-unread im = withMarks (marksIn (body im 0)) (blank (countIn im) (ruleIn im))
+unread im = withMarks (marksIn (body im 0)) (blank (countIn im) (ruleIn im) (floorIn im))

@@ -84,7 +84,7 @@ fn fill_unread(t: &mut [u8], image: &[u8])
     requires { ⌜ Named (now image) ⌝ }
     ensures { λ _. ⌜ Holds (now (t .exit)) (unread (now (image .entry))) ⌝ }
 {
-    fill_blank(t, image[4], image[6]);
+    fill_blank(t, image[4], image[6], image[7]);
     put_marks(t, body_of(image, 0));
 }
 

@@ -206,22 +206,22 @@ module _ (t : Table) (p : List ℕ) (ne : (j : ℕ) → getD (numbers (run t (wh
 
 -- Actions on a fresh table, the image of what they leave, and any bytes behind it, which `rehearse` plays: nowhere in what it prints does
 -- `refused 24` stand. With no actions it is the image of a fresh table.
-module _ (n m R : ℕ) (acts : List (List ℕ)) (sound : broken (fresh n m R) ≡ false) where
+module _ (n m R F : ℕ) (acts : List (List ℕ)) (sound : broken (fresh n m R F) ≡ false) where
   abbrev pub left : Table
-  left = play (fresh n m R) acts .table
+  left = play (fresh n m R F) acts .table
 
   replies-24 : (q : List (List ℕ)) (j : ℕ) → getD (numbers (play left q .replies)) j 0 ≢ 24
   replies-24 q j e =
-      let first = numbers (play (fresh n m R) acts .replies) in
-      not-given-24 n m R (acts ++ q) (length first + j)
-      (ap (λ (r : Ran). getD (numbers (r .replies)) (length first + j) 0) (play-append (fresh n m R) acts q)
-      ∙ rw (map-append (λ (a : Answer). a .number) (play (fresh n m R) acts .replies) (play left q .replies)) (getD-append-add first (numbers (play left q .replies)) j 0) ∙ e)
+      let first = numbers (play (fresh n m R F) acts .replies) in
+      not-given-24 n m R F (acts ++ q) (length first + j)
+      (ap (λ (r : Ran). getD (numbers (r .replies)) (length first + j) 0) (play-append (fresh n m R F) acts q)
+      ∙ rw (map-append (λ (a : Answer). a .number) (play (fresh n m R F) acts .replies) (play left q .replies)) (getD-append-add first (numbers (play left q .replies)) j 0) ∙ e)
 
   pub never-printed : (p x y : List ℕ) → printed (image left ++ p) ≢ x ++ (text " refused 24\n" ++ y)
   never-printed p x y e =
       let plan = wholeActions p in
       nowhere (printed (image left ++ p)) (x ++ text " re") y
-      (printed-without left p (replies-24 (pieces (pieceCount plan) plan)) (play-sound (fresh n m R) acts sound))
+      (printed-without left p (replies-24 (pieces (pieceCount plan) plan)) (play-sound (fresh n m R F) acts sound))
       (e ∙ sym (append-assoc x (text " re") (sought ++ y)))
 
   -- so whoever keeps the promise of `rehearse` leaves no such line in the part of the buffer that is printed

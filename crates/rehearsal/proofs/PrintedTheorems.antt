@@ -39,13 +39,13 @@ image-lines t p h small = let (sound, table, rest) = image-opened t p h small in
 
 -- ---- the case that document 01 gives whole, from the bytes of its input to those of its output
 
-case-sound : broken (fresh 4 7 0) ≡ false
+case-sound : broken (fresh 4 7 0 0) ≡ false
 unfolding broken every nth mask ones
 case-sound = refl
 
-case-short : length (image (fresh 4 7 0) ++ plan) ≤ longest
+case-short : length (image (fresh 4 7 0 0) ++ plan) ≤ longest
 unfolding image contents flatten trimmed bytes
 case-short = omega arith
 
-pub whole-case : inputLines (image (fresh 4 7 0) ++ plan) ≡ expected
-whole-case = image-lines (fresh 4 7 0) plan case-sound case-short ∙ case-holds
+pub whole-case : inputLines (image (fresh 4 7 0 0) ++ plan) ≡ expected
+whole-case = image-lines (fresh 4 7 0 0) plan case-sound case-short ∙ case-holds

@@ -12,7 +12,7 @@ use Rattle.members.specs.Members.{member, within, majority, passing, somePass, 
 use borrow.Author.Tests.{ne-eqb, ltb-true}
 use Rattle.words.specs.Refusal.{answer}
 use Rattle.words.proofs.Tests.{false-fails}
-use Rattle.members.specs.Rules.{allMeet, mayFollow, oldApart, newApart, lowestPair}
+use Rattle.members.specs.Rules.{allMeet, mayFollow, belowFloor, oldApart, newApart, lowestPair}
 use Rattle.members.specs.declared.apart.Pair.{Pair}
 use Rattle.members.proofs.Masks.{without-passing}
 use Rattle.members.proofs.Majorities.{other-rule}
@@ -108,6 +108,9 @@ has-entry (x ∷ l) v p o e = omega arith
 module _ (x a : ℕ) (e : x ≡ a) (m : ℕ) (r : Bool) where
   pub majority-told : r ≡ majority m x → r ≡ majority m a
   majority-told f = rw e at f
+
+  pub below-told : r ≡ belowFloor x m → r ≡ belowFloor a m
+  below-told f = rw e at f
 
 -- under rule 2 refusal 13 is a reply of its own: a majority is not empty
 pair-shown : (R s m : ℕ) → R ≢ 0 → 0 < s → 0 < m → allMeet s m ≡ false

@@ -5,7 +5,7 @@ ghost use lib.Dec.{eqb};
 ghost use mathlib.Core.List.{_++_};
 ghost use Prim.Native.Nat.{_<_};
 ghost use Rattle.members.specs.Members.{within, majority, passing};
-ghost use Rattle.members.specs.Rules.{mayFollow};
+ghost use Rattle.members.specs.Rules.{mayFollow, belowFloor};
 ghost use Rattle.algorithm.specs.Table.{count, server, ceiling};
 ghost use Rattle.algorithm.specs.Actions.{configRefusals, logRefusals, lastTermRefusals, electRefusals, apartShown, sameTerm, p1, majorityRefusals, markRefusals, reconfigureRefusals, lacksEntry, markedOtherwise, commitRefusals};
 ghost use Rattle.words.specs.Refusal.{answer, given};
@@ -19,6 +19,7 @@ use algorithm::Reply;
 use algorithm::term_is;
 use comparisons::lacks_role;
 use members::apart::lowest_apart;
+use members::is_below;
 use members::is_majority;
 use members::is_member;
 use members::lowest_member;
@@ -28,6 +29,7 @@ use questions::marks::is_marked;
 use questions::shares::sharing;
 use questions::shares::supporters;
 use questions::votes::poll;
+use table::rows::floor_of;
 use table::rows::last_of;
 use table::rows::length_of;
 use table::rows::mark_of;
@@ -51,6 +53,14 @@ fn may_become(t: &[u8], i: usize, m: u16) -> bool
     ensures { λ r. ⌜ r ≡ mayFollow (tableIn (now (t .entry)) .rule) (server (tableIn (now (t .entry))) i .config .set) m ⌝ }
 {
     may_follow(rule_of(t), set_of(t, i), m)
+}
+
+// Refusal 25.
+fn falls_below(t: &[u8], m: u16) -> bool
+    requires { ⌜ Held (now t) ⌝ }
+    ensures { λ r. ⌜ r ≡ belowFloor (tableIn (now (t .entry)) .floor) m ⌝ }
+{
+    is_below(floor_of(t), m)
 }
 
 fn is_last_term(t: &[u8], i: usize) -> bool
@@ -170,6 +180,9 @@ pub fn judge_reconfigure(t: &[u8], i: usize, m: u16) -> Reply
     }
     if !may_become(t, i, m) {
         return refuse_set(t, i, m);
+    }
+    if falls_below(t, m) {
+        return Reply::Refused(25);
     }
     judge_majorities(t, i)
 }

@@ -16,7 +16,7 @@ use Rattle.table.specs.Slice.{Holds, Held, Became, Within}
 use Rattle.table.proofs.LayoutLaws.{marks-in}
 use Rattle.table.proofs.HeldLaws.{its-table, held, its-room, Open, opened, read, then, closed, frame, open-row, close-row}
 
--- ---- the number of servers, and the rule
+-- ---- the number of servers, the rule and the floor
 
 -- a word of row 0
 top-read : (b : List ℕ) (k r : ℕ) → Held b → k < rowWords → r ≡ getD (words b) k 0 → r ≡ getD (head (tableIn b)) k 0
@@ -31,6 +31,9 @@ count-read b r h e = top-read b 0 r h (omega arith) e
 
 pub rule-read : (b : List ℕ) (r : ℕ) → Held b → r ≡ getD (words b) 1 0 → r ≡ tableIn b .rule
 rule-read b r h e = top-read b 1 r h (omega arith) e
+
+pub floor-read : (b : List ℕ) (r : ℕ) → Held b → r ≡ getD (words b) 2 0 → r ≡ tableIn b .floor
+floor-read b r h e = top-read b 2 r h (omega arith) e
 
 pub count-small : (b : List ℕ) (r : ℕ) → Held b → r ≡ getD (words b) 0 0 → r < 256
 count-small b r h e = omega (arith, count-read b r h e, h .shaped .few)

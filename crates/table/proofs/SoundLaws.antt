@@ -100,5 +100,5 @@ unfolding layout
 words-layout {t} s =
     let marks = words-between 0 ceiling (omega arith) (t .marks) (subst Passes (marks-sound (t .marks)) (s .marks)) in
     words-append (head t) (rows mostServers (t .servers))
-    (omega (arith, s .few), (omega (arith, s .rule), (omega arith, (omega arith, (omega arith, (omega arith, words-padded positions (t .marks) marks))))))
+    (omega (arith, s .few), (omega (arith, s .rule), (omega (arith, s .floor), (omega arith, (omega arith, (omega arith, words-padded positions (t .marks) marks))))))
     (words-rows (s .few) mostServers (t .servers) (s .servers))

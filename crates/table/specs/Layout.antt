@@ -1,5 +1,5 @@
--- A table in words: 17 rows of 70. Row 0 has the number of servers, the rule, four 0 and the 64 marks; row s has server s, and 0 where there is
--- none. Assumes nothing.
+-- A table in words: 17 rows of 70. Row 0 has the number of servers, the rule, the floor, three 0 and the 64 marks; row s has server s, and 0
+-- where there is none. Assumes nothing.
 use Prim.Native.Nat.{ℕ, zero, suc, _+_, _*_}
 use mathlib.Core.Bool.{Bool, true, false, not, _&&_}
 use mathlib.Core.List.{List, [], _∷_, _++_, map}
@@ -39,9 +39,9 @@ abbrev pub row : Server → List ℕ
 row s =
     s .role ∷ s .term ∷ s .config .set ∷ s .config .version ∷ s .config .term ∷ length (s .log) ∷ padded positions (terms (s .log))
 
--- row 0: the number of servers, the rule, and the marks
+-- row 0: the number of servers, the rule, the floor, and the marks
 abbrev pub head : Table → List ℕ
-head t = count t ∷ t .rule ∷ 0 ∷ 0 ∷ 0 ∷ 0 ∷ padded positions (t .marks)
+head t = count t ∷ t .rule ∷ t .floor ∷ 0 ∷ 0 ∷ 0 ∷ padded positions (t .marks)
 
 -- k rows: those of the servers, then rows of 0
 unfoldable pub rows : ℕ → List Server → List ℕ
@@ -71,7 +71,8 @@ serversOf (suc k) d = serverOf d ∷ serversOf k (drop rowWords d)
 
 -- the table that these words lay out
 unfoldable pub tableOf : List ℕ → Table
-tableOf c = record { servers = serversOf (getD c 0 0) (drop rowWords c); marks = take positions (drop 6 c); rule = getD c 1 0 }
+tableOf c =
+    record { servers = serversOf (getD c 0 0) (drop rowWords c); marks = take positions (drop 6 c); rule = getD c 1 0; floor = getD c 2 0 }
 
 -- the table in a slice
 unfoldable pub tableIn : List ℕ → Table

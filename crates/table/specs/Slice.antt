@@ -65,9 +65,9 @@ pub record Within (b : List ℕ) (s : ℕ) : Type 0 where
   pub some : 1 ≤ s
   pub known : s ≤ count (tableIn b)
 
--- n servers of which nothing is known yet, under the rule R, and no marks
-abbrev pub blank : ℕ → ℕ → Table
-blank n R = record { servers = replicate n absent; marks = replicate positions 0; rule = R }
+-- n servers of which nothing is known yet, under the rule R and with the floor F, and no marks
+abbrev pub blank : ℕ → ℕ → ℕ → Table
+blank n R F = record { servers = replicate n absent; marks = replicate positions 0; rule = R; floor = F }
 
 -- what the code reads of a server at once: its figures, and of its log the length and the last entry
 abbrev pub seen : Server → Row

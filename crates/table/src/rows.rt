@@ -41,8 +41,10 @@ pub const LOG: usize = 6;
 // How many words of a row are for entries, or for marks.
 pub const ENTRIES: usize = ROW - LOG;
 
-// The place of the rule in row 0, behind the number of servers.
+// The places of the rule and of the floor in row 0, behind the number of servers.
 pub const RULE: usize = 1;
+
+pub const FLOOR: usize = 2;
 
 // How many servers there are.
 pub fn count_of(t: &[u8]) -> u8
@@ -58,6 +60,14 @@ pub fn rule_of(t: &[u8]) -> u32
     ensures { λ r. ⌜ r ≡ tableIn (now (t .entry)) .rule ⌝ }
 {
     word(t, RULE)
+}
+
+// The floor: the least number of members that a new set may have.
+pub fn floor_of(t: &[u8]) -> u32
+    requires { ⌜ Held (now t) ⌝ }
+    ensures { λ r. ⌜ r ≡ tableIn (now (t .entry)) .floor ⌝ }
+{
+    word(t, FLOOR)
 }
 
 // Word f of the row of server s.

@@ -8,7 +8,7 @@ use lib.ListN.{getD, drop}
 use lib.Seq.{getD-drop, drop-drop}
 use borrow.Author.Tests.{le-leb, lt-leb}
 use Rattle.words.specs.Lists.{every, between, part}
-use Rattle.algorithm.specs.Table.{withLog, ceiling, soundServer, soundRule, positions, mostServers}
+use Rattle.algorithm.specs.Table.{withLog, ceiling, soundServer, soundRule, soundFloor, positions, mostServers}
 use Rattle.table.specs.Slice.{figured}
 use Rattle.table.specs.declared.figures.Figures.{Figures}
 use Rattle.table.specs.Layout.{serverOf, rowWords}
@@ -84,7 +84,7 @@ module _ (c : List ℕ) (n : ℕ) where
 
 -- ---- the parts of a table's words
 
-pub words-at : (c : List ℕ) (n w : ℕ) (a b r z : Bool) → w ≡ getD c 1 0 → a ≡ every (between 0 0) (part c 2 4) → b ≡ every (between 0 ceiling) (part c 6 positions)
-    → r ≡ soundRows n n (drop rowWords c) → z ≡ every (between 0 0) (part c (rowWords * n + rowWords) (rowWords * mostServers - rowWords * n)) → (soundRule w && a && b && r && z) ≡ soundWords n c
+pub words-at : (c : List ℕ) (n w f : ℕ) (a b r z : Bool) → w ≡ getD c 1 0 → f ≡ getD c 2 0 → a ≡ every (between 0 0) (part c 3 3) → b ≡ every (between 0 ceiling) (part c 6 positions)
+    → r ≡ soundRows n n (drop rowWords c) → z ≡ every (between 0 0) (part c (rowWords * n + rowWords) (rowWords * mostServers - rowWords * n)) → (soundRule w && soundFloor f && a && b && r && z) ≡ soundWords n c
 unfolding soundWords
-words-at c n w a b r z ew ea eb er ez = rw (ew, ea, eb, er, ez)
+words-at c n w f a b r z ew ef ea eb er ez = rw (ew, ef, ea, eb, er, ez)

@@ -1,4 +1,4 @@
--- A slice of 0, a number of servers and a rule holds a blank table, and a blank table whose servers are given one set is a fresh one. Assumes nothing.
+-- A slice of 0, a number of servers, a rule and a floor holds a blank table, and a blank table whose servers are given one set is a fresh one. Assumes nothing.
 use Prim.Native.Nat.{ℕ, zero, suc, _+_, _-_, _*_, _≤_, _<_}
 use native.Mathlib.Numerals.{add-one}
 use native.Mathlib.Omega.{arith}
@@ -55,23 +55,24 @@ rows-absent zero k h = refl
 rows-absent (suc n) zero h = absurd (omega arith)
 rows-absent (suc n) (suc k) h = ap (λ (l : List ℕ). replicate rowWords 0 ++ l) (rows-absent n k (omega arith))
 
-layout-blank : (n R : ℕ) → n ≤ mostServers → set (set (replicate tableWords 0) 0 n) 1 R ≡ layout (blank n R)
+layout-blank : (n R F : ℕ) → n ≤ mostServers → set (set (set (replicate tableWords 0) 0 n) 1 R) 2 F ≡ layout (blank n R F)
 unfolding layout padded
-layout-blank n R h = rw (length-replicate n absent, rows-absent n mostServers h, rows-none mostServers)
+layout-blank n R F h = rw (length-replicate n absent, rows-absent n mostServers h, rows-none mostServers)
 
 roomy-replicate : (n : ℕ) → AllRoomy (replicate n absent)
 roomy-replicate zero = tt
 roomy-replicate (suc n) = (record { short = omega arith; small = omega arith }, roomy-replicate n)
 
-pub blank-holds : (b b₁ b₂ b₃ : List ℕ) (n R : ℕ) → length b ≡ tableBytes → n ≤ mostServers → b₁ ≡ replicate (length b) 0 → Put b₁ b₂ 0 n → Put b₂ b₃ 1 R → Holds b₃ (blank n R)
-blank-holds b b₁ b₂ b₃ n R z h e p q =
+pub blank-holds : (b b₁ b₂ b₃ b₄ : List ℕ) (n R F : ℕ) → length b ≡ tableBytes → n ≤ mostServers → b₁ ≡ replicate (length b) 0 → Put b₁ b₂ 0 n → Put b₂ b₃ 1 R → Put b₃ b₄ 2 F
+    → Holds b₄ (blank n R F)
+blank-holds b b₁ b₂ b₃ b₄ n R F z h e p q u =
     let cleared : b₁ ≡ replicate tableBytes 0 = e ∙ ap (λ (k : ℕ). replicate k 0) z in
     record {
-      sized = q .sized ∙ p .sized ∙ ap length cleared ∙ length-replicate {A = ℕ} tableBytes 0;
+      sized = u .sized ∙ q .sized ∙ p .sized ∙ ap length cleared ∙ length-replicate {A = ℕ} tableBytes 0;
       laid =
-          q .word
-          ∙ ap (λ (l : List ℕ). set l 1 R) (p .word ∙ ap (λ (l : List ℕ). set l 0 n) (ap words cleared ∙ words-zero tableWords))
-          ∙ layout-blank n R h;
+          u .word
+          ∙ ap (λ (l : List ℕ). set l 2 F) (q .word ∙ ap (λ (l : List ℕ). set l 1 R) (p .word ∙ ap (λ (l : List ℕ). set l 0 n) (ap words cleared ∙ words-zero tableWords)))
+          ∙ layout-blank n R F h;
       shaped = record { few = omega (arith, length-replicate n absent); roomy = roomy-replicate n; marked = length-replicate {A = ℕ} positions 0 };
     }
 
@@ -136,9 +137,9 @@ given-none b n m h e =
     record { within = omega arith; holds = subst (λ (ss : List Server). Holds b (withServers ss (tableIn b))) (e ∙ ap (λ (j : ℕ). replicate j absent) (sym all)) h }
 
 -- a blank table, and what it is once its servers are given a set
-module _ (b : List ℕ) (n R : ℕ) (h : Holds b (blank n R)) where
+module _ (b : List ℕ) (n R F : ℕ) (h : Holds b (blank n R F)) where
   pub blank-servers : tableIn b .servers ≡ replicate n absent
   blank-servers = ap (λ (t : Table). t .servers) (its-table h)
 
-  pub given-fresh : (b' : List ℕ) (m : ℕ) → Holds b' (withServers (replicate n (freshServer m)) (tableIn b)) → Holds b' (fresh n m R)
+  pub given-fresh : (b' : List ℕ) (m : ℕ) → Holds b' (withServers (replicate n (freshServer m)) (tableIn b)) → Holds b' (fresh n m R F)
   given-fresh b' m g = rw (its-table h) at g

@@ -11,7 +11,7 @@ use lib.ListN.{length, getD, take, drop, replicate, length-drop, length-map, tak
 use lib.Seq.{drop-drop, drop-at, length-take-le, take-add, take-suc, take-all}
 use Rattle.words.proofs.Tests.{Passes, both, together, at-most, is-at-most}
 use Rattle.words.specs.Lists.{every, between, part}
-use Rattle.algorithm.specs.Table.{entries, Server, Table, count, ceiling, soundServer, soundRule, positions, mostServers}
+use Rattle.algorithm.specs.Table.{entries, Server, Table, count, ceiling, soundServer, soundRule, soundFloor, positions, mostServers}
 use Rattle.words.proofs.Lists.{every-cons, every-replicate}
 use Rattle.algorithm.proofs.Sound.{SoundTable}
 use Rattle.table.specs.Layout.{padded, terms, row, head, rows, layout, serverOf, serversOf, tableOf, rowWords, tableWords}
@@ -146,33 +146,35 @@ words-pass {t} s =
     let n = count t in
     let all = rows mostServers (t .servers) in
     let under : drop rowWords (layout t) ≡ all = drop-at (head t) all rowWords (length-head t) in
-    let spare : Passes (every (between 0 0) (part (layout t) 2 4)) = record { yes = tt } in
+    let spare : Passes (every (between 0 0) (part (layout t) 3 3)) = record { yes = tt } in
     let marks : Passes (every (between 0 ceiling) (part (layout t) 6 positions)) =
     rw (marks-back t (s .full)) (subst Passes (marks-sound (t .marks)) (s .marks)) in
     let servers : Passes (soundRows n n (drop rowWords (layout t))) = rw under (rows-pass n mostServers (t .servers) (s .few) (s .servers)) in
     let beyond : Passes (every (between 0 0) (part (layout t) (rowWords * n + rowWords) (rowWords * mostServers - rowWords * n))) =
     rw (past-rows n (layout t) (length-layout t), under) (beyond-pass mostServers (t .servers) (s .few)) in
-    together (together (together (together (is-at-most (s .rule)) spare) marks) servers) beyond
+    together (together (together (together (together (is-at-most (s .rule)) (is-at-most (s .floor))) spare) marks) servers) beyond
 
 length-servers : (n : ℕ) (d : List ℕ) → length (serversOf n d) ≡ n
 unfolding serversOf
 length-servers zero d = refl
 length-servers (suc n) d = ap suc (length-servers n (drop rowWords d))
 
--- the first row of words whose four figures after the rule are 0
-top-back : (c : List ℕ) → rowWords ≤ length c → Passes (every (between 0 0) (part c 2 4)) → take rowWords c ≡ head (tableOf c)
+-- the first row of words whose three figures after the floor are 0
+top-back : (c : List ℕ) → rowWords ≤ length c → Passes (every (between 0 0) (part c 3 3)) → take rowWords c ≡ head (tableOf c)
 unfolding every tableOf
 top-back c h z =
     let none : Passes (every (between 0 0) (take 0 (drop positions (drop 6 c)))) = record { yes = tt } in
     let rule = getD c 1 0 in
-    let figures : take 2 c ≡ count (tableOf c) ∷ rule ∷ [] =
-    take-suc c 1 0 (omega arith)
-    ∙ ap (λ (l : List ℕ). l ++ (rule ∷ [])) (take-suc c 0 0 (omega arith))
-    ∙ ap (λ (k : ℕ). k ∷ rule ∷ []) (sym (length-servers (getD c 0 0) (drop rowWords c))) in
-    let four : take 4 (drop 2 c) ≡ replicate 4 0 =
-    all-zero (part c 2 4) z ∙ ap (λ (j : ℕ). replicate j 0) (length-take-le 4 (drop 2 c) (omega (arith, length-drop 2 c))) in
+    let floor = getD c 2 0 in
+    let figures : take 3 c ≡ count (tableOf c) ∷ rule ∷ floor ∷ [] =
+    take-suc c 2 0 (omega arith)
+    ∙ ap (λ (l : List ℕ). l ++ (floor ∷ [])) (take-suc c 1 0 (omega arith))
+    ∙ ap (λ (l : List ℕ). l ++ (rule ∷ []) ++ (floor ∷ [])) (take-suc c 0 0 (omega arith))
+    ∙ ap (λ (k : ℕ). k ∷ rule ∷ floor ∷ []) (sym (length-servers (getD c 0 0) (drop rowWords c))) in
+    let zeros : take 3 (drop 3 c) ≡ replicate 3 0 =
+    all-zero (part c 3 3) z ∙ ap (λ (j : ℕ). replicate j 0) (length-take-le 3 (drop 3 c) (omega (arith, length-drop 3 c))) in
     let room : take positions (drop 6 c) ≡ padded positions (take positions (drop 6 c)) = sym (room-back positions (drop 6 c) (omega arith) (omega (arith, length-drop 6 c)) none) in
-    take-add 2 68 c ∙ ap₂ _++_ figures (take-add 4 positions (drop 2 c) ∙ ap₂ _++_ four (ap (take positions) (drop-drop 4 2 c) ∙ room))
+    take-add 3 67 c ∙ ap₂ _++_ figures (take-add 3 positions (drop 3 c) ∙ ap₂ _++_ zeros (ap (take positions) (drop-drop 3 3 c) ∙ room))
 
 pub words-back : (n : ℕ) (c : List ℕ) → length c ≡ tableWords → n ≡ getD c 0 0 → 1 ≤ n → n ≤ mostServers → Passes (soundWords n c)
     → (layout (tableOf c) ≡ c) × SoundTable (tableOf c)
@@ -180,12 +182,13 @@ unfolding soundWords layout tableOf
 words-back n c e first some few h =
     let d = drop rowWords c in
     let ms = take positions (drop 6 c) in
-    let rule = getD c 1 0 in
-    let spare = every (between 0 0) (part c 2 4) in
-    let (rest, beyond) = both {a = soundRule rule && spare && every (between 0 ceiling) ms && soundRows n n d} h in
-    let (top, tested) = both {a = soundRule rule && spare && every (between 0 ceiling) ms} rest in
-    let (figures, low) = both {a = soundRule rule && spare} top in
-    let (one, none) = both {a = soundRule rule} figures in
+    let figures = soundRule (getD c 1 0) && soundFloor (getD c 2 0) in
+    let spare = every (between 0 0) (part c 3 3) in
+    let (rest, beyond) = both {a = figures && spare && every (between 0 ceiling) ms && soundRows n n d} h in
+    let (top, tested) = both {a = figures && spare && every (between 0 ceiling) ms} rest in
+    let (front, low) = both {a = figures && spare} top in
+    let (two, none) = both {a = figures} front in
+    let (rule, floor) = both {a = soundRule (getD c 1 0)} two in
     let (laid, sound) = rows-back n mostServers n d (simp length-drop (omega arith)) few tested (rw (← past-rows n c e) beyond) in
     let counted : length (serversOf (getD c 0 0) d) ≡ getD c 0 0 = length-servers (getD c 0 0) d in
     let many : length ms ≡ positions = length-take-le positions (drop 6 c) (omega (arith, length-drop 6 c)) in (
@@ -198,6 +201,7 @@ words-back n c e first some few h =
             subst (λ (k : ℕ). Passes (every (soundServer (length (serversOf k d))) (serversOf k d))) first (rw (length-servers n d) sound);
         full = many;
         marks = subst Passes (sym (marks-sound ms)) low;
-        rule = at-most one;
+        rule = at-most rule;
+        floor = at-most floor;
       },
     )

@@ -5,7 +5,7 @@ use mathlib.Core.List.{List, []}
 use lib.Dec.{leb}
 use lib.ListN.{getD, drop}
 use Rattle.words.specs.Lists.{every, between, part}
-use Rattle.algorithm.specs.Table.{withLog, ceiling, positions, mostServers, soundServer, soundRule}
+use Rattle.algorithm.specs.Table.{withLog, ceiling, positions, mostServers, soundServer, soundRule, soundFloor}
 use Rattle.table.specs.Layout.{rowWords, serverOf}
 
 -- d begins with the row of a server of a table of n: its five figures, its log's length, and its entries, 0 beyond the length
@@ -26,7 +26,8 @@ soundRows (suc k) n d = soundRow n d && soundRows k n (drop rowWords d)
 unfoldable pub soundWords : ℕ → List ℕ → Bool
 soundWords n c =
     soundRule (getD c 1 0)
-    && every (between 0 0) (part c 2 4)
+    && soundFloor (getD c 2 0)
+    && every (between 0 0) (part c 3 3)
     && every (between 0 ceiling) (part c 6 positions)
     && soundRows n n (drop rowWords c)
     && every (between 0 0) (part c (rowWords * n + rowWords) (rowWords * mostServers - rowWords * n))

@@ -7,6 +7,7 @@ ghost use Rattle.table.specs.Layout.{tableBytes, stored, tableIn};
 ghost use Rattle.table.specs.Slice.{Holds, Held, blank};
 use algorithm::Term;
 use algorithm::Version;
+use table::rows::FLOOR;
 use table::rows::RULE;
 use table::rows::put_config;
 use words::put;
@@ -22,13 +23,14 @@ fn zero(t: &mut [u8])
 }
 
 // A table of n servers of which nothing is known yet, for a reader to fill.
-pub fn fill_blank(t: &mut [u8], n: u8, rule: u8)
+pub fn fill_blank(t: &mut [u8], n: u8, rule: u8, floor: u8)
     requires { ⌜ (length (now t) ≡ tableBytes) × (n ≤ mostServers) ⌝ }
-    ensures { λ _. ⌜ Holds (now (t .exit)) (blank n rule) ⌝ }
+    ensures { λ _. ⌜ Holds (now (t .exit)) (blank n rule floor) ⌝ }
 {
     zero(t);
     put(t, 0, n as u32);
     put(t, RULE, rule as u32);
+    put(t, FLOOR, floor as u32);
 }
 
 // Gives the blank servers one set, and so a configuration.
@@ -44,11 +46,11 @@ fn give_set(t: &mut [u8], n: u8, set: u16)
     }
 }
 
-// A fresh table of n servers with one set, under a rule.
-pub fn fill_fresh(t: &mut [u8], n: u8, set: u16, rule: u8)
+// A fresh table of n servers with one set, under a rule and with a floor.
+pub fn fill_fresh(t: &mut [u8], n: u8, set: u16, rule: u8, floor: u8)
     requires { ⌜ (length (now t) ≡ tableBytes) × (n ≤ mostServers) ⌝ }
-    ensures { λ _. ⌜ now (t .exit) ≡ stored (fresh n set rule) ⌝ }
+    ensures { λ _. ⌜ now (t .exit) ≡ stored (fresh n set rule floor) ⌝ }
 {
-    fill_blank(t, n, rule);
+    fill_blank(t, n, rule, floor);
     give_set(t, n, set);
 }

@@ -17,6 +17,7 @@ use table::figures::Figures;
 use table::figures::figures_sound;
 use table::rows::CONFIG;
 use table::rows::ENTRIES;
+use table::rows::FLOOR;
 use table::rows::LENGTH;
 use table::rows::LOG;
 use table::rows::ROLE;
@@ -37,8 +38,8 @@ const SERVER_WORDS: usize = SERVERS as usize * ROW;
 
 const MOST: u32 = SERVERS as u32;
 
-// The words of row 0 between the rule and the marks.
-const SPARE: usize = RULE + 1;
+// The words of row 0 between the floor and the marks.
+const SPARE: usize = FLOOR + 1;
 
 const SPARE_WORDS: usize = LOG - SPARE;
 
@@ -95,11 +96,12 @@ fn words_sound(t: &[u8], n: u8) -> bool
 {
     let used = ROW * n as usize;
     let rule = word(t, RULE);
+    let floor = word(t, FLOOR);
     let spare = all_between(t, SPARE, SPARE_WORDS, 0, 0);
     let marks = all_between(t, LOG, ENTRIES, 0, CEILING);
     let rows = rows_sound(t, n);
     let beyond = all_between(t, used + ROW, SERVER_WORDS - used, 0, 0);
-    (rule <= RULE_2) & spare & marks & rows & beyond
+    (rule <= RULE_2) & (floor <= MOST) & spare & marks & rows & beyond
 }
 
 // The slice is a table that breaks no rule.

@@ -3,7 +3,7 @@ use Prim.Native.Nat.{ℕ}
 use mathlib.Core.Bool.{Bool, true, false, cond, not, _||_, _&&_}
 use mathlib.Core.List.{List, [], _∷_, _++_, append-nil, map}
 use mathlib.Core.Path.{_≡_, refl, sym, ap, ap₂, _∙_}
-use lib.Dec.{T, ltb, eqb}
+use lib.Dec.{T, eqb}
 use borrow.Author.Needs.{needs}
 use mir.Facts.{and-yes, eqb-no}
 use Rattle.words.specs.Lists.{every}
@@ -126,10 +126,11 @@ given-each P (r ∷ rs) none (h, e) = go (r .holds) h (given-each P rs none e)
 
 -- ---- their order
 
--- each number is larger than the one before it, the first one larger than k
-unfoldable pub ascending : ℕ → List Refusal → Bool
-ascending k [] = true
-ascending k (r ∷ rs) = ltb k (r .number) && ascending (r .number) rs
+-- the refusals have numbers of the list, and stand in its order
+unfoldable pub inOrder : List ℕ → List Refusal → Bool
+inOrder ks [] = true
+inOrder [] (r ∷ rs) = false
+inOrder (k ∷ ks) (r ∷ rs) = cond (eqb k (r .number)) (inOrder ks rs) (inOrder ks (r ∷ rs))
 
 -- ---- a judge's tests
 

@@ -10,9 +10,9 @@ use lib.Dec.{T, eqb, eqb→eq}
 use lib.ListN.{length, getD, take, drop, length-append, length-drop, length-map, List·getD-append, List·getD-map}
 use lib.Seq.{take-all, take-add, getD-drop, getD-at, length-take-le}
 use Rattle.words.proofs.Tests.{Passes, both, equal, three}
-use Rattle.algorithm.specs.Table.{absent, soundRule}
+use Rattle.algorithm.specs.Table.{absent, soundRule, soundFloor}
 use Rattle.words.specs.Words.{half}
-use Rattle.image.specs.Contents.{firstBody, countIn, ruleIn, offset, size, start, body, serverIn, soundAt, soundBodies}
+use Rattle.image.specs.Contents.{firstBody, countIn, ruleIn, floorIn, offset, size, start, body, serverIn, soundAt, soundBodies}
 use Rattle.words.proofs.BelowLaws.{all-below}
 use Rattle.image.specs.Image.{opening, serverBody, bodies, contents, image}
 use Rattle.reader.specs.Reader.{readReply, serversTo, readTable, readEnd}
@@ -142,13 +142,13 @@ module _ (im slice : List ℕ) (e : readReply im slice ≡ 0) (byte : Bytes im) 
 
   opens : take 8 im ≡ opening (readTable im)
   opens =
-      let (most, h, _) = three (is 0 83 && is 1 73 && is 2 84 && is 3 69 && is 5 0) (is 7 0) (soundRule (ruleIn im)) (read .opened .yes) in
+      let (most, _, _) = three (is 0 83 && is 1 73 && is 2 84 && is 3 69 && is 5 0) (soundRule (ruleIn im)) (soundFloor (floorIn im)) (read .opened .yes) in
       let (some, d, f) = three (is 0 83 && is 1 73 && is 2 84) (is 3 69) (is 5 0) most in
       let (a, b, c) = three (is 0 83) (is 1 73) (is 2 84) some in
       let long = read .named .complete in
       take-add 4 4 im
       ∙ ap₂ _++_ (take-four im (omega arith)) (four-at im 4 (omega arith))
-      ∙ (λ i. say 0 83 a i ∷ say 1 73 b i ∷ say 2 84 c i ∷ say 3 69 d i ∷ sym counted i ∷ say 5 0 f i ∷ ruleIn im ∷ say 7 0 h i ∷ [])
+      ∙ (λ i. say 0 83 a i ∷ say 1 73 b i ∷ say 2 84 c i ∷ say 3 69 d i ∷ sym counted i ∷ say 5 0 f i ∷ ruleIn im ∷ floorIn im ∷ [])
 
   -- with the entries of the first k bodies
   front : (k : ℕ) → k ≤ n + 1 → opening (readTable im) ++ contents (firstBody n) (take k bs) ≡ take (8 + 4 * k) im

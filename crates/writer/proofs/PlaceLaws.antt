@@ -126,9 +126,9 @@ module _ (t : Table) (b : List ℕ) (from : ℕ) where
 
 -- ---- the image
 
-pub opening-wrote : (t : Table) (b b₁ b₂ : List ℕ) (n R c d : ℕ) → n ≡ count t → R ≡ t .rule → Wrote b b₁ 0 (83 ∷ 73 ∷ 84 ∷ 69 ∷ []) c
-    → Wrote b₁ b₂ c (n ∷ 0 ∷ R ∷ 0 ∷ []) d → Wrote b b₂ 0 (opening t) d
-opening-wrote t b b₁ b₂ n R c d en er w x = rw (en, er) at (then w x)
+pub opening-wrote : (t : Table) (b b₁ b₂ : List ℕ) (n R F c d : ℕ) → n ≡ count t → R ≡ t .rule → F ≡ t .floor
+    → Wrote b b₁ 0 (83 ∷ 73 ∷ 84 ∷ 69 ∷ []) c → Wrote b₁ b₂ c (n ∷ 0 ∷ R ∷ F ∷ []) d → Wrote b b₂ 0 (opening t) d
+opening-wrote t b b₁ b₂ n R F c d en er ef w x = rw (en, er, ef) at (then w x)
 
 module _ (t : Table) (b : List ℕ) (h : length (image t) ≤ length b) where
   pub opening-room : 8 ≤ length b

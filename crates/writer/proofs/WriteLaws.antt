@@ -34,7 +34,12 @@ pub savable : (b : List ℕ) (w : Bool) → w ≡ whole b → not w ≡ false �
 savable b w e h =
     let yes : whole b ≡ true = sym e ∙ not-false w h in
     let sound = table-sound {t = tableIn b} (record { no = rw (whole-sound b yes) tt }) in
-    record { held = whole-held b yes; roles = λ s. roles-small _ (tableIn b .servers) s (sound .servers); rule = omega (arith, sound .rule) }
+    record {
+      held = whole-held b yes;
+      roles = λ s. roles-small _ (tableIn b .servers) s (sound .servers);
+      rule = omega (arith, sound .rule);
+      floor = omega (arith, sound .floor);
+    }
 
 -- ---- the answer
 

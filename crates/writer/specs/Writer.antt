@@ -41,8 +41,9 @@ pub record WriteAnswer (slice buffer : List ℕ) (e r : ℕ) (buffer' : List ℕ
 abbrev pub bodyOf : Table → ℕ → List ℕ
 bodyOf t e = getD (bodies t) e (serverBody absent)
 
--- the slice holds a table, of which each role and the rule are bytes
+-- the slice holds a table, of which each role, the rule and the floor are bytes
 pub record Savable (b : List ℕ) : Type 0 where
   pub held : Held b
   pub roles : (s : ℕ) → server (tableIn b) s .role < 256
   pub rule : tableIn b .rule < 256
+  pub floor : tableIn b .floor < 256

@@ -16,6 +16,7 @@ use crate::bodies::size_of;
 use buffer::put_word;
 use image::contents::first_body;
 use table::rows::count_of;
+use table::rows::floor_of;
 use table::rows::rule_of;
 use whole::is_whole;
 
@@ -41,7 +42,7 @@ fn put_opening(buffer: &mut [u8], t: &[u8]) -> usize
     requires { ⌜ 8 ≤ length (now buffer) ⌝ }
     ensures { λ r. ⌜ Wrote (now (buffer .entry)) (now (buffer .exit)) 0 (opening (tableIn (now (t .entry)))) r ⌝ }
 {
-    let figures = [count_of(t), 0, rule_of(t) as u8, 0];
+    let figures = [count_of(t), 0, rule_of(t) as u8, floor_of(t) as u8];
     let end = put_word(buffer, 0, b"SITE");
     put_word(buffer, end, &figures)
 }

@@ -1,6 +1,6 @@
 -- `kyntulei::judge_fresh` meets its contract. Assumes nothing.
 use borrow.Author.Needs.{needs}
-use Rattle.kyntulei.proofs.FreshLaws.{other-length, other-rule, no-server, too-many, good-set, bad-set}
+use Rattle.kyntulei.proofs.FreshLaws.{other-length, other-rule, other-floor, no-server, too-many, good-set, bad-set}
 use Rattle.kyntulei.proofs.judge_fresh.Statement.{statement}
 use Rattle.kyntulei.proofs.judge_fresh.Tie as tie
 
@@ -10,6 +10,7 @@ judge-fresh-spec =
     (tie.spec
     (λ c. search (needs, other-length))
     (λ c. search (needs, other-rule))
+    (λ c. search (needs, other-floor))
     (λ c. search (needs, no-server))
     (λ c. search (needs, too-many))
     (λ c. search needs)

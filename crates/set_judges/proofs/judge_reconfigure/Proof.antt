@@ -18,7 +18,10 @@ returns-4 : tie.Need-returns-4
 returns-4 c = search replying depth 9
 
 returns-5 : tie.Need-returns-5
-returns-5 c = search replying depth 9
+returns-5 c = search replying depth 11
+
+returns-6 : tie.Need-returns-6
+returns-6 c = search replying depth 11
 
 pub judge-reconfigure-spec : {M : Type 1} → statement M
 judge-reconfigure-spec =
@@ -35,4 +38,6 @@ judge-reconfigure-spec =
     (λ c κs. (search needs, (search needs, (search needs, denied _ _ (c .before .may-become .ensures) (c .if4 .taken)))))
     returns-4
     (λ c κs. search needs)
-    returns-5)
+    returns-5
+    (λ c κs. search needs)
+    returns-6)

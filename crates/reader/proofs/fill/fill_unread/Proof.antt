@@ -20,6 +20,7 @@ fill-unread-spec =
     (tie.spec
     (λ c. search needs)
     (λ c. search needs)
+    (λ c. search needs)
     (λ c κs. search needs)
     body-of-requires
     put-marks-requires

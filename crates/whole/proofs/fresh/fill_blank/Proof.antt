@@ -8,4 +8,4 @@ returns : tie.Need-returns
 returns c = search blank-holds
 
 pub fill-blank-spec : {M : Type 1} → statement M
-fill-blank-spec = tie.close (tie.spec (λ c κs. search needs) (λ c κs. search needs) (λ c κs. search needs) (λ c. search needs) returns)
+fill-blank-spec = tie.close (tie.spec (λ c κs. search needs) (λ c κs. search needs) (λ c κs. search needs) (λ c κs. search needs) (λ c. search needs) returns)
