@@ -13,7 +13,8 @@ use Rattle.words.specs.Refusal.{Refusal, refuse, first}
 use Rattle.words.proofs.Tests.{Passes, first-of, second-of, is-equal}
 use Rattle.words.proofs.RefusalLaws.{lacks, first-later}
 use Rattle.algorithm.specs.Table.{Table, count, server, mark}
-use Rattle.algorithm.specs.Actions.{markedOtherwise, entryRefusals, Action, unknown, elect, reconfigure, send, spread, write, fetch, rollBack, commit, stretch, actionOf}
+use Rattle.algorithm.specs.Bytes.{Action, unknown, elect, reconfigure, send, spread, write, fetch, rollBack, commit, stretch, actionOf}
+use Rattle.algorithm.specs.Actions.{markedOtherwise, entryRefusals}
 use Rattle.algorithm.specs.Run.{commonRefusals, ownRefusals, refusals, step}
 use Rattle.algorithm.proofs.Refused.{Fits, common-fit}
 use Rattle.algorithm.proofs.Full.{CanCommit}

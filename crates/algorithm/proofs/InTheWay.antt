@@ -14,7 +14,8 @@ use Rattle.members.specs.Members.{within, somePass, lowestIn}
 use Rattle.members.proofs.Said.{Lowest}
 use Rattle.members.proofs.Lowest.{lowest-in, lowest-map}
 use Rattle.algorithm.specs.Table.{Table, count, server, held}
-use Rattle.algorithm.specs.Actions.{Action, unknown, elect, reconfigure, send, spread, write, fetch, rollBack, commit, stretch, actionOf, oneServer, largerTerm, newerConfig, logAhead, electRefusals, sameTerm, apartShown, majorityRefusals, markRefusals, reconfigureRefusals, sendRefusals, spreadRefusals, writeRefusals, fetchRefusals, rollBackRefusals, opposesAt, commitRefusals}
+use Rattle.algorithm.specs.Bytes.{Action, unknown, elect, reconfigure, send, spread, write, fetch, rollBack, commit, stretch, actionOf}
+use Rattle.algorithm.specs.Actions.{oneServer, largerTerm, newerConfig, logAhead, electRefusals, sameTerm, apartShown, majorityRefusals, markRefusals, reconfigureRefusals, sendRefusals, spreadRefusals, writeRefusals, fetchRefusals, rollBackRefusals, opposesAt, commitRefusals}
 use Rattle.algorithm.specs.Run.{takenShown, commonRefusals, ownRefusals, answered, step}
 use Rattle.algorithm.proofs.Refused.{Fits, step-each}
 use Rattle.algorithm.proofs.Seen.{within-width}

@@ -11,7 +11,8 @@ use Rattle.members.specs.Members.{within}
 use Rattle.words.proofs.Tests.{Passes, Fails, together, refuted, both-refuted, equal, unequal, less, above, is-at-most}
 use Rattle.words.specs.Lists.{every}
 use Rattle.algorithm.specs.Table.{Entry, entry, Log, Table, count, server, primary, entryAt, withServer, changed, withConfig, withLog, withEntry, ceiling, positions, soundEntry, soundServer, broken, freshServer, fresh, mostServers}
-use Rattle.algorithm.specs.Actions.{Action, elect, reconfigure, commit, send, spread, fetch, rollBack, write, stretch, unknown, actionOf, fetchRefusals, fetchAfter, steppedDown, winner, nextConfig, joins}
+use Rattle.algorithm.specs.Bytes.{Action, elect, reconfigure, commit, send, spread, fetch, rollBack, write, stretch, unknown, actionOf}
+use Rattle.algorithm.specs.Actions.{fetchRefusals, fetchAfter, steppedDown, winner, nextConfig, joins}
 use Rattle.algorithm.specs.Run.{known, after, step}
 use Rattle.words.proofs.RefusalLaws.{NoneHold}
 use Rattle.words.proofs.Lists.{length-replace, every-nth, every-plus, every-take, every-replicate}

@@ -15,7 +15,7 @@ use Rattle.words.proofs.Tests.{Passes, Fails, neither, refuted, both-refuted}
 use Rattle.algorithm.specs.Table.{Table, count, broken, positions}
 use Rattle.words.specs.Lists.{every, between}
 use Rattle.words.specs.Refusal.{nothing, Refusal, first, Answer, answer, given, firstShown}
-use Rattle.algorithm.specs.Actions.{Action, unknown, elect, reconfigure, send, spread, write, fetch, rollBack, commit, kinds, kindOf, iOf, jOf, setOf, usesSet, usesJ, actionOf, stretch, setFits}
+use Rattle.algorithm.specs.Bytes.{Action, unknown, elect, reconfigure, send, spread, write, fetch, rollBack, commit, kinds, kindOf, iOf, jOf, setOf, usesSet, usesJ, actionOf, stretch, setFits}
 use Rattle.algorithm.specs.Run.{known, commonRefusals, ownRefusals, order, refusals, after, takenShown, answered, step, wins, wonBy}
 
 -- ---- the numbers of an action's refusals

@@ -25,7 +25,8 @@ use Rattle.members.proofs.Pairs.{some-apart, majority-range}
 use Rattle.algorithm.specs.declared.Reply.{Reply}
 use Rattle.algorithm.specs.declared.Reply.the-variants.{Taken, Refused, RefusedAt, Apart, Copied}
 use Rattle.algorithm.specs.Table.{Table, count, server, positions}
-use Rattle.algorithm.specs.Actions.{Action, unknown, elect, reconfigure, send, spread, write, fetch, rollBack, commit, actionOf, oneServer, apartShown, majorityRefusals, markRefusals, sendRefusals, spreadRefusals, writeRefusals, fetchRefusals, rollBackRefusals, stretch, copiedShown, fetches, electRefusals, commitRefusals}
+use Rattle.algorithm.specs.Bytes.{Action, unknown, elect, reconfigure, send, spread, write, fetch, rollBack, commit, actionOf, stretch}
+use Rattle.algorithm.specs.Actions.{oneServer, apartShown, majorityRefusals, markRefusals, sendRefusals, spreadRefusals, writeRefusals, fetchRefusals, rollBackRefusals, copiedShown, fetches, electRefusals, commitRefusals}
 use Rattle.algorithm.specs.Run.{answerOf, replyOf, replyBytes, answerIn, repliesBytes, numbers, commonRefusals, ownRefusals, answered, step, pieces, answersIn, play, takenReply, takenShown, refusals}
 use Rattle.algorithm.proofs.Refused.{Fits, step-each, common-fit, taken}
 use Rattle.algorithm.proofs.Fetches.{copied-most}

@@ -11,7 +11,7 @@ use lib.ListN.{length, take, drop, length-append, length-drop}
 use lib.Seq.{take-append-le, drop-append-le, drop-drop}
 use Rattle.words.proofs.Tests.{Fails, fails-false, false-fails, neither, one-refuted, equal, unequal}
 use Rattle.algorithm.specs.Table.{Server, Table, broken, server, mark, withServers, withMarks}
-use Rattle.algorithm.specs.Actions.{Action, unknown, elect, reconfigure, send, spread, write, fetch, rollBack, commit, stretch, actionOf}
+use Rattle.algorithm.specs.Bytes.{Action, unknown, elect, reconfigure, send, spread, write, fetch, rollBack, commit, stretch, actionOf}
 use Rattle.algorithm.specs.Run.{after, answered, step, pieces, pieceCount, Ran, play, runTo, run, wonBy, wonAlong}
 use Rattle.words.proofs.Choice.{put-elim}
 use Rattle.words.proofs.Lists.{nth-replace}

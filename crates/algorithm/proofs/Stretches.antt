@@ -15,7 +15,8 @@ use Rattle.words.specs.Refusal.{first}
 use Rattle.words.proofs.Lists.{length-replace}
 use Rattle.words.proofs.Tests.{Passes, Fails, together, both-refuted, fails-false, less, is-true, is-at-most}
 use Rattle.algorithm.specs.Table.{Table, count, server, broken, positions}
-use Rattle.algorithm.specs.Actions.{joins, stretch, setOf, fetchRefusals, fetchAfter, Fetched, fetches}
+use Rattle.algorithm.specs.Bytes.{stretch, setOf}
+use Rattle.algorithm.specs.Actions.{joins, fetchRefusals, fetchAfter, Fetched, fetches}
 use Rattle.algorithm.specs.Cases.{actionBytes}
 use Rattle.algorithm.specs.Run.{known, refusals, after, step, Ran, play}
 use Rattle.algorithm.proofs.Refused.{Taken, taken, refused-stays}

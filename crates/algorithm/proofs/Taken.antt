@@ -15,7 +15,8 @@ use Rattle.members.proofs.Majorities.{majority-is, may-follow, most-map, none-p
 use Rattle.words.specs.Lists.{nth, put}
 use Rattle.words.specs.Refusal.{refuse}
 use Rattle.algorithm.specs.Table.{Log, Server, Table, count, server, entry, entryAt, mark, withConfig, withEntry, withLog, positions, newer, last, held, prefix, primary}
-use Rattle.algorithm.specs.Actions.{Action, elect, reconfigure, commit, send, spread, fetch, rollBack, write, unknown, actionOf, steppedDown, voted, winner, electAfter, someMarked, holdsMarked, p1, markedOtherwise, nextConfig, reconfigureAfter, sendAfter, spreadAfter, writeAfter, fetchAfter, rollBackAfter, entryRefusals, commitAfter, stretch, fetchRefusals, fetches}
+use Rattle.algorithm.specs.Bytes.{Action, elect, reconfigure, commit, send, spread, fetch, rollBack, write, unknown, actionOf, stretch}
+use Rattle.algorithm.specs.Actions.{steppedDown, voted, winner, electAfter, someMarked, holdsMarked, p1, markedOtherwise, nextConfig, reconfigureAfter, sendAfter, spreadAfter, writeAfter, fetchAfter, rollBackAfter, entryRefusals, commitAfter, fetchRefusals, fetches}
 use Rattle.algorithm.specs.Run.{known, after, step, wins, wonBy}
 use Rattle.algorithm.proofs.Logless as logless
 use Rattle.algorithm.proofs.Logless.{core}

@@ -1,67 +1,14 @@
--- The nine actions: the bytes that name one; for each kind the refusals that are its own, in the order in which they are looked at, and the
--- table after it. A byte is any number here; those that come from a slice are below 256. Assumes nothing.
+-- The nine kinds of action: for each the refusals that are its own, in the order in which they are looked at, and the table after it.
+-- Assumes nothing.
 use Prim.Native.Nat.{ℕ, zero, suc, _+_}
 use mathlib.Core.Bool.{Bool, true, false, cond, not, _||_, _&&_}
 use mathlib.Core.List.{List, [], _∷_, _++_}
 use lib.Dec.{leb, ltb, eqb}
-use lib.ListN.{length, getD}
-use Rattle.words.specs.Words.{pairOf}
+use lib.ListN.{length}
 use Rattle.words.specs.Refusal.{Shown, nothing, Refusal, refuse, refuseShowing, first, unlessRefused}
-use Rattle.members.specs.Members.{member, within, majority, somePass, mostPass, lowestIn}
-use Rattle.words.specs.Lists.{between}
+use Rattle.members.specs.Members.{member, majority, somePass, mostPass, lowestIn}
 use Rattle.members.specs.Rules.{mayFollow, belowFloor, oldApart, newApart}
 use Rattle.algorithm.specs.Table.{Config, configOf, entry, Log, Server, Table, count, server, primary, secondary, entryAt, termAt, mark, withServers, withServer, changed, withMark, withRole, withTerm, withConfig, withEntry, withoutLast, ceiling, positions, newer, last, ahead, held, prefix}
-
--- ---- the bytes by their places: 0 the kind, 1 and 2 servers i and j, 4 and 5 the set; 3, 6 and 7 are 0
-
--- byte k, from 0; a byte that is missing is 0
-abbrev pub byte : List ℕ → ℕ → ℕ
-byte bs k = getD bs k 0
-
--- the kind
-abbrev pub kindOf : List ℕ → ℕ
-kindOf bs = byte bs 0
-
--- server i
-abbrev pub iOf : List ℕ → ℕ
-iOf bs = byte bs 1
-
--- server j
-abbrev pub jOf : List ℕ → ℕ
-jOf bs = byte bs 2
-
--- the set
-abbrev pub setOf : List ℕ → ℕ
-setOf bs = pairOf (byte bs 4) (byte bs 5)
-
--- every kind uses i; elect, reconfigure and commit use the set, and a stretch uses its bytes for a count
-abbrev pub usesSet : ℕ → Bool
-usesSet k = eqb k 1 || eqb k 2 || eqb k 8 || eqb k 9
-
--- what may stand there: of a stretch as many entries as a log may have, but one at least; of the other kinds a set of some of n servers
-abbrev pub setFits : ℕ → ℕ → ℕ → Bool
-setFits n k M = cond (eqb k 9) (between 1 positions M) (within M n)
-
--- send, spread, fetch, roll back and a stretch use j
-abbrev pub usesJ : ℕ → Bool
-usesJ k = eqb k 3 || eqb k 4 || eqb k 6 || eqb k 7 || eqb k 9
-
--- an action: its kind and what that uses, or an unknown kind
-pub data Action : Type 0 where
-  elect reconfigure commit : ℕ → ℕ → Action
-  send spread fetch rollBack : ℕ → ℕ → Action
-  write : ℕ → Action
-  stretch : ℕ → ℕ → ℕ → Action
-  unknown : Action
-
--- the actions by the numbers of their kinds, from 0
-abbrev pub kinds : ℕ → ℕ → ℕ → List Action
-kinds i j M =
-    unknown ∷ elect i M ∷ reconfigure i M ∷ send i j ∷ spread i j ∷ write i ∷ fetch i j ∷ rollBack i j ∷ commit i M ∷ stretch i j M ∷ []
-
--- the action that the bytes name
-abbrev pub actionOf : List ℕ → Action
-actionOf bs = getD (kinds (iOf bs) (jOf bs) (setOf bs)) (kindOf bs) unknown
 
 -- ---- what the kinds share
 

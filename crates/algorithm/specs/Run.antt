@@ -10,7 +10,8 @@ use Rattle.words.specs.Refusal.{Shown, nothing, Refusal, refuse, Answer, answer
 use Rattle.algorithm.specs.declared.Reply.{Reply}
 use Rattle.algorithm.specs.declared.Reply.the-variants.{Taken, Refused, RefusedAt, Apart, Copied}
 use Rattle.algorithm.specs.Table.{Table, count, broken, server}
-use Rattle.algorithm.specs.Actions.{oneServer, twoSets, byte, kindOf, iOf, jOf, setOf, usesSet, usesJ, Action, unknown, elect, reconfigure, send, spread, write, fetch, rollBack, commit, actionOf, electRefusals, reconfigureRefusals, sendRefusals, spreadRefusals, writeRefusals, fetchRefusals, rollBackRefusals, commitRefusals, electAfter, reconfigureAfter, sendAfter, spreadAfter, writeAfter, fetchAfter, rollBackAfter, commitAfter, copiedShown, setFits, stretch, fetches}
+use Rattle.algorithm.specs.Bytes.{byte, kindOf, iOf, jOf, setOf, usesSet, usesJ, Action, unknown, elect, reconfigure, send, spread, write, fetch, rollBack, commit, actionOf, setFits, stretch}
+use Rattle.algorithm.specs.Actions.{oneServer, twoSets, electRefusals, reconfigureRefusals, sendRefusals, spreadRefusals, writeRefusals, fetchRefusals, rollBackRefusals, commitRefusals, electAfter, reconfigureAfter, sendAfter, spreadAfter, writeAfter, fetchAfter, rollBackAfter, commitAfter, copiedShown, fetches}
 
 -- ---- replies
 

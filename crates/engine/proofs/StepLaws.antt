@@ -13,7 +13,7 @@ use Rattle.algorithm.specs.declared.Reply.{Reply}
 use Rattle.algorithm.specs.declared.Reply.the-variants.{Taken, Refused}
 use Rattle.algorithm.specs.Run.{answerOf, replyOf, formRefusals, commonRefusals, ownRefusals, refusals, after, takenShown, answered, outcomeBy, step}
 use Rattle.algorithm.specs.Table.{count}
-use Rattle.algorithm.specs.Actions.{Action, actionOf}
+use Rattle.algorithm.specs.Bytes.{Action, actionOf}
 use Rattle.algorithm.proofs.Refused.{none-given, common-fit}
 use Rattle.algorithm.proofs.Kept.{step-sound}
 use Rattle.algorithm.proofs.Replies.{taken-number, step-carried}

@@ -15,7 +15,7 @@ use Rattle.words.proofs.BelowLaws.{all-below}
 use Rattle.words.proofs.RefusalLaws.{none-hold}
 use Rattle.members.specs.Members.{within}
 use Rattle.algorithm.specs.Table.{positions}
-use Rattle.algorithm.specs.Actions.{kindOf, iOf, jOf, setOf, usesSet, setFits, usesJ, Action, unknown, elect, reconfigure, send, spread, write, fetch, rollBack, commit, stretch, kinds, actionOf}
+use Rattle.algorithm.specs.Bytes.{kindOf, iOf, jOf, setOf, usesSet, setFits, usesJ, Action, unknown, elect, reconfigure, send, spread, write, fetch, rollBack, commit, stretch, kinds, actionOf}
 use Rattle.algorithm.specs.Run.{strayZero, unknownKind, formRefusals}
 use Rattle.form.specs.declared.Asked.{Asked}
 use Rattle.form.specs.declared.Fields.{Fields}

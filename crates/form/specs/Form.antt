@@ -3,7 +3,7 @@ use Prim.Native.Nat.{ℕ}
 use mathlib.Core.List.{List, _∷_}
 use lib.ListN.{getD}
 use Rattle.words.specs.Refusal.{Refusal, refuse, first, unlessRefused}
-use Rattle.algorithm.specs.Actions.{kindOf, iOf, jOf, setOf, Action, unknown, elect, reconfigure, send, spread, write, fetch, rollBack, commit, stretch, kinds, actionOf}
+use Rattle.algorithm.specs.Bytes.{kindOf, iOf, jOf, setOf, Action, unknown, elect, reconfigure, send, spread, write, fetch, rollBack, commit, stretch, kinds, actionOf}
 use Rattle.algorithm.specs.Run.{strayZero, unknownKind, fieldRefusals, formRefusals}
 use Rattle.form.specs.declared.Asked.{Asked}
 use Rattle.form.specs.declared.Asked.the-variants.{Elect, Reconfigure, Send, Spread, Write, Fetch, RollBack, Commit, Stretch}

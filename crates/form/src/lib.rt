@@ -1,7 +1,7 @@
 // An action read from its bytes, once: what is asked of a table of n servers, or why the bytes ask for nothing.
 ghost use mathlib.Core.Path.{_≡_};
 ghost use lib.ListN.{length};
-ghost use Rattle.algorithm.specs.Actions.{usesSet, setFits, usesJ};
+ghost use Rattle.algorithm.specs.Bytes.{usesSet, setFits, usesJ};
 ghost use Rattle.algorithm.specs.Run.{known};
 ghost use Rattle.words.specs.Refusal.{first};
 ghost use Rattle.form.specs.Form.{fieldsOf, refusalsOf, eightRefusals, asks, actionBy, formBy, formOf};

@@ -10,7 +10,7 @@ use lib.ListN.{length, getD, take}
 use lib.Seq.{getD-append-add, getD-take}
 use borrow.Author.Tests.{ne-eqb}
 use Rattle.algorithm.specs.Table.{Table, server, primary, mark, broken, fresh, held}
-use Rattle.algorithm.specs.Actions.{actionOf}
+use Rattle.algorithm.specs.Bytes.{actionOf}
 use Rattle.words.specs.Words.{valueOf, eight}
 use Rattle.words.specs.Refusal.{Answer, unlessRefused}
 use Rattle.algorithm.specs.Run.{replyBytes, repliesBytes, answered, step, pieces, play, wins, wonBy, wonAlong, Rising}

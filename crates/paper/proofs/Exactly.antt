@@ -14,7 +14,8 @@ use Rattle.words.proofs.Tests.{Passes, Fails, both, both-refuted, at-most}
 use Rattle.words.proofs.Lists.{length-replace}
 use Rattle.words.proofs.RefusalLaws.{NoneHold, none-hold, first-later, one-more, none-before}
 use Rattle.algorithm.specs.Table.{Table, count, server, mark, broken}
-use Rattle.algorithm.specs.Actions.{kinds, kindOf, iOf, jOf, setOf, actionOf, voted, winner, fetchRefusals, fetchAfter, entryRefusals, markedOtherwise, fetches}
+use Rattle.algorithm.specs.Bytes.{kinds, kindOf, iOf, jOf, setOf, actionOf}
+use Rattle.algorithm.specs.Actions.{voted, winner, fetchRefusals, fetchAfter, entryRefusals, markedOtherwise, fetches}
 use Rattle.algorithm.specs.Run.{known, formRefusals, commonRefusals, ownRefusals, refusals, after, step}
 use Rattle.algorithm.proofs.Refused.{Fits, common-fit, Taken, taken}
 use Rattle.algorithm.proofs.Seen.{count-voted}
@@ -22,7 +23,7 @@ use Rattle.algorithm.proofs.Sound.{SoundTable, table-sound, here-sound}
 use Rattle.algorithm.proofs.Fetches.{refused-next, stopped, some-copied, copied-most}
 use Rattle.algorithm.proofs.Kept.{fetch-sound, after-sound}
 use Rattle.algorithm.proofs.Taken.{can-commit}
-use Rattle.algorithm.specs.Actions as house
+use Rattle.algorithm.specs.Bytes as house
 use Rattle.paper.specs.Paper.{Action, GetEntries, Requires, Step}
 use Rattle.paper.specs.Shown.{shown, OfPaper, timesAsked, Repeats, never, again, UpTo}
 use Rattle.paper.proofs.EachKind.{spread-kind, send-kind, write-kind, fetch-kind, roll-back-kind, commit-kind, elect-kind, reconfigure-kind}

@@ -13,7 +13,7 @@ use Rattle.members.proofs.Said.{Most}
 use Rattle.members.proofs.Masks.{member-pos}
 use Rattle.members.proofs.Meaning.{within-is}
 use Rattle.algorithm.specs.Table.{Log, Server, Table, count, server, primary, mark, absent, freshServer, fresh, broken}
-use Rattle.algorithm.specs.Actions.{actionOf}
+use Rattle.algorithm.specs.Bytes.{actionOf}
 use Rattle.algorithm.specs.Run.{step, play, pieces, runTo}
 use Rattle.algorithm.proofs.Full.{CanCommit}
 use Rattle.algorithm.proofs.Logless.{core}
@@ -26,7 +26,7 @@ use Rattle.algorithm.proofs.Taken.{moves}
 use Rattle.algorithm.proofs.Runs.{play-keeps}
 use Rattle.algorithm.proofs.Safe.{Safe, no-mark, safe-fresh, safe-moves}
 use Rattle.algorithm.proofs.Safety.{marked-so}
-use Rattle.algorithm.specs.Actions as house
+use Rattle.algorithm.specs.Bytes as house
 use Rattle.algorithm.proofs.Invariant as invariant
 use Rattle.paper.specs.Paper.{Set, Primary, State, IsServer, Initial, Action, CommitEntry, Requires, ElectionSafety, LeaderCompleteness}
 use Rattle.paper.specs.Narrowings.{Narrowed}

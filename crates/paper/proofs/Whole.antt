@@ -12,12 +12,12 @@ use Rattle.members.specs.Members.{within, mask}
 use Rattle.members.proofs.Masks.{mask-lt, member-pos}
 use Rattle.members.proofs.Meaning.{within-is}
 use Rattle.algorithm.specs.Table.{Table, count, server, broken}
-use Rattle.algorithm.specs.Actions.{actionOf}
+use Rattle.algorithm.specs.Bytes.{actionOf}
 use Rattle.algorithm.specs.Cases.{actionBytes}
 use Rattle.algorithm.specs.Run.{known, step, formRefusals}
 use Rattle.algorithm.proofs.Seen.{within-width}
 use Rattle.algorithm.proofs.Sound.{table-sound, here-sound}
-use Rattle.algorithm.specs.Actions as house
+use Rattle.algorithm.specs.Bytes as house
 use Rattle.paper.specs.Paper.{Set, _∈_, State, IsServer, OfServers, Quorums, Action, Reconfig, BecomeLeader, CommitEntry, SendConfig, UpdateTerms, GetEntries, RollbackEntries, ClientRequest, Requires, Step}
 use Rattle.paper.specs.Narrowings.{Narrowed}
 use Rattle.paper.specs.Runs.{OnServers, Alike}

@@ -4,7 +4,7 @@ use mathlib.Core.List.{List, map}
 use mathlib.Core.Path.{_≡_}
 use Rattle.members.specs.Members.{member}
 use Rattle.algorithm.specs.Table.{Entry, Log, Table, count, server, mark}
-use Rattle.algorithm.specs.Actions as house
+use Rattle.algorithm.specs.Bytes as house
 use Rattle.paper.specs.Paper.{Set, Role, Primary, Secondary, State, Action, Reconfig, BecomeLeader, CommitEntry, SendConfig, UpdateTerms, GetEntries, RollbackEntries, ClientRequest, Requires, Step}
 
 -- 0 is secondary, 1 primary (a table with another role is broken)
