@@ -9,26 +9,31 @@
  *   - while a call lasts, no other thread is at what it was lent, but to read what is const
  * Nothing is kept between calls: the table slice is the whole state, and calls on different slices may run at once.
  *
- * THE TABLE SLICE is 17 rows of 70 unsigned words of 4 bytes, low byte first: 4,760 bytes.
- *   Row 0:                  word 0       n, the number of servers, 1 to 16
- *                           word 1       the rule: 0 for rule 1, 1 for rule 2
- *                           word 2       the floor, 0 to 16: how many members a new set has at least
- *                           words 3..5   0
- *                           words 6..69  the marks of positions 1..64: a committed term, or 0
- *   Row s, for server s:    word 0       role: 0 secondary, 1 primary
- *                           word 1       term, up to 1,000,000,000; a primary's is at least 1
- *                           word 2       set of its configuration: not empty, bit s-1 for server s, no bit above n
- *                           word 3       version of its configuration, 1 to 1,000,000,000
- *                           word 4       term of its configuration, up to 1,000,000,000
- *                           word 5       number of entries in its log, up to 64
- *                           words 6..69  the log's entries, each a term of 1 to 1,000,000,000; 0 past its end
+ * THE TABLE SLICE is 17 rows of 134 unsigned words of 4 bytes, low byte first: 9,112 bytes.
+ *   Row 0:                  word 0         n, the number of servers, 1 to 16
+ *                           word 1         the rule: 0 for rule 1, 1 for rule 2
+ *                           word 2         the floor, 0 to 16: how many members a new set has at least
+ *                           words 3..5     0
+ *                           words 6..69    the marks of positions 1..64: a committed term, or 0
+ *                           words 70..133  0
+ *   Row s, for server s:    word 0         role: 0 secondary, 1 primary
+ *                           word 1         term, up to 1,000,000,000; a primary's is at least 1
+ *                           word 2         set of its configuration: not empty, bit s-1 for server s, no bit above n
+ *                           word 3         version of its configuration, 1 to 1,000,000,000
+ *                           word 4         term of its configuration, up to 1,000,000,000
+ *                           word 5         number of entries in its log, up to 64
+ *                           words 6..69    the terms of the log's entries, each 1 to 1,000,000,000; 0 past its end
+ *                           words 70..133  the bakes of the same entries, each any number; 0 past the log's end
  *   Rows past n are 0. Marks go up to 1,000,000,000. A slice of any other length or contents is a broken table.
+ *   An entry is a term and the number of the bake that it is about. Logs are compared by their terms; a bake goes where
+ *   its entry goes, and decides nothing.
  *
  * THE TABLE IMAGE is a table in fewer bytes, as a file carries it; kyntulei_read makes the slice of it, and
  * kyntulei_write makes it of the slice. Here, too, the low byte of a number leads.
  *   Bytes 0..3              the letters SITE
  *   Byte 4                  n, 1 to 16
- *   Byte 5                  0
+ *   Byte 5                  1 for log entries of 8 bytes, term and bake; 0 for entries of 4 bytes, the term alone, and
+ *                           every bake is 0. kyntulei_write puts 0 exactly where all bakes are 0
  *   Byte 6                  the rule: 0 for rule 1, 1 for rule 2
  *   Byte 7                  the floor, 0 to 16
  *   Bytes 8..11+4n          the contents: an entry for the marks and behind it one for every server, n+1 in all. An
@@ -41,17 +46,17 @@
  *                           bytes 4..7     term
  *                           bytes 8..11    version of its configuration
  *                           bytes 12..15   term of its configuration
- *                           from byte 16   the log's entries, 0 to 64 of 4 bytes each
- *   The figures are those of the table slice, within the same bounds. The longest image has 4,684 bytes.
+ *                           from byte 16   the log's entries, 0 to 64 of them, each as wide as byte 5 of the image says
+ *   The figures are those of the table slice, within the same bounds. The longest image has 8,780 bytes.
  *
- * AN ACTION has its kind in byte 0, server i in byte 1, server j in byte 2 and a set, or a count, in bytes 4 and 5, low
- * byte first, of 8 bytes in all. Bytes 3, 6 and 7, and what a kind does not name below, have to be 0.
+ * AN ACTION is 8 bytes: its kind in byte 0, server i in byte 1, server j in byte 2, and from byte 4 on, low byte first,
+ * a set or a count in 2 bytes, or a bake in 4. Byte 3, and what a kind does not name below, have to be 0.
  *   1 elect        i, set   i leads, if the servers in set vote for it
  *   2 reconfigure  i, set   i's configuration gets the new set
  *   3 send         i, j     j takes over i's configuration
  *   4 spread       i, j     j hears of i's term
- *   5 write        i        i's log grows by an entry
- *   6 fetch        i, j     i's log takes over the next entry of j's
+ *   5 write        i, bake  i's log grows by an entry of i's term and this bake, which may be any number
+ *   6 fetch        i, j     i's log takes over the next entry of j's, term and bake
  *   7 roll back    i, j     i's log, held against j's, loses an entry
  *   8 commit       i, set   i's last entry is marked, if the servers in set have it
  *   9 stretch      i, j     with a count of 1 to 64 for the set: so many fetches one after another, or as many as are taken
@@ -110,7 +115,7 @@
 extern "C" {
 #endif
 
-/* The one length a table slice may have: 4760. */
+/* The one length a table slice may have: 9112. */
 size_t kyntulei_table_bytes(void);
 
 /* Fills `table`, whatever it held, with n servers that are all secondary at term 0 with an empty log and with one
@@ -151,11 +156,11 @@ uint64_t kyntulei_run(uint8_t *table, size_t table_len, const uint8_t *actions, 
  * Answers 0 when filled. Otherwise neither `table` nor *end is written, and the answer is, asked in this order:
  *    1  table_len is not kyntulei_table_bytes()
  *   30  image_len is less than 8
- *   31  the image does not begin with SITE, byte 5 is not 0, the rule in byte 6 is above 1, or the floor in byte 7 is
- *       above 16
+ *   31  the image does not begin with SITE, byte 5 or the rule in byte 6 is above 1, or the floor in byte 7 is above 16
  *   32  n is not 1 to 16
  *   33  image_len ends within the contents or within a body; or an offset is not where the body before it ends (12+4n
- *       for the marks); or the marks' length is not 4 times 0 to 64, or a server's not 16 more than such a number
+ *       for the marks); or the marks' length is not 4 times 0 to 64, or a server's not 16 and that of 0 to 64
+ *       entries
  *   34  a figure is out of its bounds, byte 1 of a server's body is not 0, or the last mark is 0
  * All contents and all bodies' ends come before any figure: 33 wherever it applies, and else 34. `end` must be valid
  * even where 1 to 34 is expected. */
@@ -163,11 +168,11 @@ uint32_t kyntulei_read(const uint8_t *image, size_t image_len, uint8_t *table, s
 
 /* Writes the image of `table` to the start of `buffer`, and sets *end to its length; the bytes of `buffer` from there on
  * keep what they held. kyntulei_read makes the same table of it, and what kyntulei_read took as an image is written
- * again byte for byte.
+ * again byte for byte, but for entries of 8 bytes where all bakes are 0: these are written with 4.
  *
  * Answers 0 when written. Otherwise neither `buffer` nor *end is written, and the answer is, asked in this order:
  *    1  the table is broken, table_len other than kyntulei_table_bytes() included
- *   35  buffer_len is less than the image's length; 4,684 bytes are enough for any table
+ *   35  buffer_len is less than the image's length; 8,780 bytes are enough for any table
  * `end` must be valid even where 1 or 35 is expected. */
 uint32_t kyntulei_write(const uint8_t *table, size_t table_len, uint8_t *buffer, size_t buffer_len, uint64_t *end);
 

@@ -38,6 +38,18 @@ static const struct temper even_temper = {
     .spoiled = 5,
 };
 
+/* Into every second write, once the plan is drawn: bakes decide nothing, so that it stays the plan from before them. */
+static void give_bakes(struct plan *plan)
+{
+    uint32_t writes = 0;
+    for (size_t piece = 0; piece < plan->count; piece++) {
+        uint8_t *action = plan->actions + ACTION_BYTES * piece;
+        if (action[0] == WRITE && ++writes % 2 == 0) {
+            put_word(action, 1, writes);
+        }
+    }
+}
+
 static void fill_guided(struct plan *plan, uint32_t n)
 {
     static uint8_t played[TABLE_BYTES];
@@ -46,6 +58,7 @@ static void fill_guided(struct plan *plan, uint32_t n)
     memcpy(played, plan->table, TABLE_BYTES);
     plan->count = PLAN_ACTIONS;
     draw_guided_plan(&source, &even_temper, played, plan->count, plan->actions);
+    give_bakes(plan);
 }
 
 static void fill_copies(struct plan *plan, uint32_t n, bool in_stretches)
@@ -54,6 +67,7 @@ static void fill_copies(struct plan *plan, uint32_t n, bool in_stretches)
     uint8_t *full = plan->table + row_start(1);
     for (size_t index = 0; index < MOST_ENTRIES; index++) {
         put_word(full, ENTRIES + index, 1 + (uint32_t)index);
+        put_word(full, BAKES + index, (uint32_t)index % 2);
     }
     put_word(full, LOG_LENGTH, MOST_ENTRIES);
     for (uint32_t server = 2; server <= n; server++) {

@@ -9,6 +9,7 @@ int main(void)
     check_rules(tested_engine);
     check_servers(tested_engine);
     check_stretches(tested_engine);
+    check_bakes(tested_engine);
     check_broken(tested_engine);
     check_lengths(tested_engine);
     check_images(tested_engine);

@@ -75,10 +75,14 @@ static void break_row_0(const struct engine *engine)
         broken_word(engine, 0, column, 1);
         every_byte_of(engine, 0, column, 0);
     }
-    for (size_t column = MARKS; column < ROW_WORDS; column++) {
+    for (size_t column = MARKS; column < MARKS_END; column++) {
         sound_word(engine, 0, column, CEILING);
         broken_word(engine, 0, column, (uint32_t)CEILING + 1);
         broken_word(engine, 0, column, UINT32_MAX);
+    }
+    for (size_t column = MARKS_END; column < ROW_WORDS; column++) {
+        broken_word(engine, 0, column, 1);
+        every_byte_of(engine, 0, column, 0);
     }
 }
 
@@ -131,13 +135,33 @@ static void break_logs(const struct engine *engine)
     }
 }
 
-/* A full log leaves no 0 behind it; one entry more would stand in the next row. */
+/* A bake may be any number, but only where there is an entry. */
+static void break_bakes(const struct engine *engine)
+{
+    const uint32_t bakes[] = {0, 1, CEILING, (uint32_t)CEILING + 1, UINT32_C(1) << 31, UINT32_MAX};
+    struct scene ready = ready_scene(engine);
+    for (uint32_t server = 1; server <= 4; server++) {
+        uint32_t length = word(ready.table + row_start(server), LOG_LENGTH);
+        for (size_t index = 0; index < length; index++) {
+            for (size_t which = 0; which < sizeof bakes / sizeof *bakes; which++) {
+                sound_word(engine, server, BAKES + index, bakes[which]);
+            }
+        }
+        for (size_t index = length; index < MOST_ENTRIES; index++) {
+            broken_word(engine, server, BAKES + index, 1);
+            every_byte_of(engine, server, BAKES + index, 0);
+        }
+    }
+}
+
+/* A full log leaves no 0 behind it: one entry more would have the first bake for its term. */
 static void break_full_logs(const struct engine *engine)
 {
     struct scene scene = ready_scene(engine);
     uint8_t *row = scene.table + row_start(4);
     for (size_t index = 0; index < MOST_ENTRIES; index++) {
         put_word(row, ENTRIES + index, 1);
+        put_word(row, BAKES + index, 1);
     }
     put_word(row, LOG_LENGTH, 64);
     refused(&scene, act(SPREAD, 4, 4, 0), 18, "sound table: a log of 64 entries");
@@ -145,6 +169,10 @@ static void break_full_logs(const struct engine *engine)
     broken(&scene, "broken table: a log of 65 entries");
     put_word(row, LOG_LENGTH, 63);
     broken(&scene, "broken table: a log of 63 entries and one behind");
+    put_word(row, ENTRIES + MOST_ENTRIES - 1, 0);
+    broken(&scene, "broken table: a log of 63 entries and a bake behind");
+    put_word(row, BAKES + MOST_ENTRIES - 1, 0);
+    refused(&scene, act(SPREAD, 4, 4, 0), 18, "sound table: a log of 63 entries");
 }
 
 static void break_rows_beyond_n(const struct engine *engine)
@@ -168,6 +196,7 @@ void check_broken(const struct engine *engine)
     break_row_0(engine);
     break_servers(engine);
     break_logs(engine);
+    break_bakes(engine);
     break_full_logs(engine);
     break_rows_beyond_n(engine);
 }

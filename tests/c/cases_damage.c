@@ -12,9 +12,10 @@ static uint32_t reply_to_byte(size_t at, uint32_t value)
 {
     if (at < OPENING_BYTES) {
         bool is_number = value >= 1 && value <= MOST_SERVERS;
+        bool is_width = at == WIDTH_AT && value <= WIDE;
         bool is_rule = at == RULE_AT && value <= RULE_2;
         bool is_floor = at == FLOOR_AT && value <= MOST_SERVERS;
-        return is_rule || is_floor ? 0 : at != SERVERS_AT ? 31 : is_number ? 33 : 32;
+        return is_width || is_rule || is_floor ? 0 : at != SERVERS_AT ? 31 : is_number ? 33 : 32;
     }
     if (at < first_body_at(4)) {
         return 33;
@@ -69,7 +70,10 @@ static void every_byte_of_the_whole_case(const struct engine *engine)
                 is_bad_site(engine, image.bytes, image.length, number, name);
             } else {
                 struct scene scene = fresh;
-                scene.table[place_in_table(at)] = image.bytes[at];
+                /* How wide entries are where there are none, no table tells. */
+                if (at != WIDTH_AT) {
+                    scene.table[place_in_table(at)] = image.bytes[at];
+                }
                 reads_as(engine, image.bytes, image.length, &scene, image.length, name);
             }
             image.bytes[at] = before;
@@ -115,6 +119,12 @@ static struct scene full_scene(const struct engine *engine, uint32_t n)
     return scene;
 }
 
+static struct scene with_bakes(struct scene scene)
+{
+    fill_bakes(&scene);
+    return scene;
+}
+
 static void drawn_damages(const struct engine *engine)
 {
     struct source source = {1};
@@ -122,7 +132,7 @@ static void drawn_damages(const struct engine *engine)
         uint8_t table[TABLE_BYTES];
         uint8_t image[MOST_IMAGE_BYTES];
         draw_odd_table(&source, table);
-        size_t image_len = image_of(table, image);
+        size_t image_len = draw_image(&source, table, image);
         size_t length = chance(&source, 90) ? damage_image(&source, image, image_len, image_len) : image_len;
         char name[40];
         snprintf(name, sizeof name, "drawn image %u", number);
@@ -133,7 +143,12 @@ static void drawn_damages(const struct engine *engine)
 void check_damages(const struct engine *engine)
 {
     const struct scene scenes[] = {
-        ready_scene(engine), fresh_scene(engine, 1, 1), full_scene(engine, 1), full_scene(engine, 16),
+        ready_scene(engine),
+        fresh_scene(engine, 1, 1),
+        full_scene(engine, 1),
+        full_scene(engine, 16),
+        with_bakes(full_scene(engine, 1)),
+        with_bakes(full_scene(engine, 16)),
     };
     every_byte_of_the_whole_case(engine);
     for (size_t which = 0; which < sizeof scenes / sizeof *scenes; which++) {

@@ -17,9 +17,12 @@ static void each_kind_is_taken(const struct engine *engine)
     give_configuration(&after[SEND - 1], 2, 7, 2, 2);
     give_role(&after[SPREAD - 1], 4, SECONDARY, 2);
     GIVE_LOG(&after[WRITE - 1], 1, 1, 2, 2);
+    GIVE_BAKES(&after[WRITE - 1], 1, 41, 42, 0);
     GIVE_LOG(&after[FETCH - 1], 2, 1, 2);
+    GIVE_BAKES(&after[FETCH - 1], 2, 43, 42);
     GIVE_LOG(&after[ROLL_BACK - 1], 4, 1);
     GIVE_LOG(&after[STRETCH - 1], 2, 1, 2);
+    GIVE_BAKES(&after[STRETCH - 1], 2, 43, 42);
     for (uint32_t kind = ELECT; kind <= LAST_KIND; kind++) {
         char name[40];
         snprintf(name, sizeof name, "ready action of kind %u", kind);
@@ -46,7 +49,10 @@ static bool is_used(uint32_t kind, size_t index)
         return names_j(kind);
     case 4:
     case 5:
-        return names_set(kind);
+        return names_set(kind) || kind == WRITE;
+    case 6:
+    case 7:
+        return kind == WRITE;
     default:
         return false;
     }

@@ -19,6 +19,16 @@ static const uint8_t two_servers[72] = {
     0, 0, 2, 0, 24, 23, 22, 21, 28, 27, 26, 25, 32, 31, 30, 29,
 };
 
+/* Two servers with bakes: 0x15161718 and none at server 1, 0xf3f2f1f0 at server 2. Marks stay terms. */
+static const uint8_t with_bakes[80] = {
+    'S', 'I', 'T', 'E', 2, 1, 0, 0, 20, 0, 4, 0, 24, 0, 32, 0, 56, 0, 24, 0,
+    9, 0, 0, 0,
+    1, 0, 3, 0, 4, 3, 2, 1, 8, 7, 6, 5, 12, 11, 10, 9,
+    0x14, 0x13, 0x12, 0x11, 0x18, 0x17, 0x16, 0x15, 0x1c, 0x1b, 0x1a, 0x19, 0, 0, 0, 0,
+    0, 0, 2, 0, 0, 0, 0, 0, 1, 0, 0, 0, 0, 0, 0, 0,
+    2, 0, 0, 0, 0xf0, 0xf1, 0xf2, 0xf3,
+};
+
 static void literal_images(const struct engine *engine)
 {
     struct scene scene = fresh_scene(engine, 4, 7);
@@ -39,6 +49,18 @@ static void literal_images(const struct engine *engine)
     written = image_of_scene(&scene);
     reads_as(engine, two_servers, sizeof two_servers, &scene, 72, "image of two servers");
     check(written.length == 72 && memcmp(written.bytes, two_servers, 72) == 0, "the tests write two servers");
+
+    scene = fresh_scene(engine, 2, 2);
+    give_role(&scene, 1, PRIMARY, 0x01020304);
+    give_configuration(&scene, 1, 3, 0x05060708, 0x090a0b0c);
+    GIVE_LOG(&scene, 1, 0x11121314, 0x191a1b1c);
+    GIVE_BAKES(&scene, 1, 0x15161718, 0);
+    GIVE_LOG(&scene, 2, 2);
+    GIVE_BAKES(&scene, 2, 0xf3f2f1f0);
+    give_mark(&scene, 1, 9);
+    written = image_of_scene(&scene);
+    reads_as(engine, with_bakes, sizeof with_bakes, &scene, 80, "image of two servers with bakes");
+    check(written.length == 80 && memcmp(written.bytes, with_bakes, 80) == 0, "the tests write two servers with bakes");
 }
 
 static void good_image(const struct scene *scene, size_t expected_length, const char *name)
@@ -78,9 +100,19 @@ static void long_and_short_images(const struct engine *engine)
                 struct scene scene = fresh_scene(engine, n, 1);
                 fill_figures(&scene, counts[log], counts[mark]);
                 good_image(&scene, 12 + 4 * n + 4 * counts[mark] + n * (16 + 4 * counts[log]), name);
+                fill_bakes(&scene);
+                good_image(&scene, 12 + 4 * n + 4 * counts[mark] + n * (16 + 8 * counts[log]), name);
             }
         }
     }
+}
+
+static void longest_image(const struct engine *engine)
+{
+    struct scene scene = fresh_scene(engine, 16, 1);
+    fill_figures(&scene, 64, 64);
+    fill_bakes(&scene);
+    good_image(&scene, 8780, "the longest image");
 }
 
 /* Also so many that a length of 16 bits would show an input that ends within the image. */
@@ -100,7 +132,7 @@ static void opening_bytes(const struct engine *engine)
 {
     uint8_t image[92];
     for (size_t length = 0; length < OPENING_BYTES; length++) {
-        is_bad_site(engine, (const uint8_t *)"site\x11\1\1", length, 30, "fewer than 8 bytes, all of them wrong");
+        is_bad_site(engine, (const uint8_t *)"site\x11\2\2", length, 30, "fewer than 8 bytes, all of them wrong");
     }
     memcpy(image, whole_case, sizeof image);
     const uint8_t bad_numbers[] = {0, 17, 18, 32, 128, 255};
@@ -121,7 +153,7 @@ static void opening_bytes(const struct engine *engine)
 
 static void slices_that_are_no_table(const struct engine *engine)
 {
-    const size_t lengths[] = {0, 1, 280, 4480, 4756, 4759};
+    const size_t lengths[] = {0, 1, 536, 4760, 8576, 9108, 9111};
     uint8_t image[93];
     memcpy(image, whole_case, sizeof whole_case);
     for (size_t which = 0; which < sizeof lengths / sizeof *lengths; which++) {
@@ -150,6 +182,7 @@ void check_images(const struct engine *engine)
     literal_images(engine);
     fresh_images(engine);
     long_and_short_images(engine);
+    longest_image(engine);
     bytes_behind(engine);
     opening_bytes(engine);
     slices_that_are_no_table(engine);

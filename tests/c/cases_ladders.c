@@ -8,14 +8,14 @@ static const uint32_t above_n = 9;
 static void climb_to_fields(struct scene *scene, struct bytes8 *action, uint32_t kind, const char *name)
 {
     action->byte[0] = LAST_KIND + 1;
-    action->byte[7] = 1;
+    action->byte[3] = 1;
     put_word(scene->table, SPARE, 1);
     refused(scene, *action, 1, name);
     put_word(scene->table, SPARE, 0);
     refused(scene, *action, 2, name);
     action->byte[0] = (uint8_t)kind;
     refused(scene, *action, 3, name);
-    action->byte[7] = 0;
+    action->byte[3] = 0;
     refused(scene, *action, 4, name);
 }
 

@@ -3,17 +3,21 @@
 
 #include "scene.h"
 
-/* Server 1 leads with so many entries, of terms that rise; server 2 follows with the first few of them. */
+/* Server 1 leads with so many entries, of terms that rise, most with a bake; server 2 follows with the first few. */
 static struct scene behind_scene(const struct engine *engine, uint32_t there, uint32_t here)
 {
     uint32_t entries[MOST_ENTRIES];
+    uint32_t bakes[MOST_ENTRIES];
     for (uint32_t index = 0; index < MOST_ENTRIES; index++) {
         entries[index] = 1 + index / 3;
+        bakes[index] = index % 5 == 0 ? 0 : UINT32_MAX - index;
     }
     struct scene scene = fresh_scene(engine, 3, 7);
     give_role(&scene, 1, PRIMARY, 30);
     give_log(&scene, 1, there, entries);
+    give_bakes(&scene, 1, there, bakes);
     give_log(&scene, 2, here, entries);
+    give_bakes(&scene, 2, here, bakes);
     return scene;
 }
 
@@ -90,14 +94,17 @@ static void refused_as_a_fetch(const struct engine *engine)
     refused(&scene, act(STRETCH, 2, 1, 2), 20, "a stretch over a different entry");
 }
 
-/* Only the last entry is compared, as a fetch does, so that an earlier difference stays. */
+/* Only the last entry's term is compared, as a fetch does: an earlier difference stays, and bakes do. */
 static void joined_at_the_last_entry(const struct engine *engine)
 {
     struct scene scene = behind_scene(engine, 0, 0);
     GIVE_LOG(&scene, 1, 1, 2, 3, 4);
+    GIVE_BAKES(&scene, 1, 11, 12, 13, 14);
     GIVE_LOG(&scene, 2, 2, 2);
+    GIVE_BAKES(&scene, 2, 21, 22);
     struct scene after = scene;
     GIVE_LOG(&after, 2, 2, 2, 3, 4);
+    GIVE_BAKES(&after, 2, 21, 22, 13, 14);
     replied(&scene, act(STRETCH, 2, 1, 9), copied_reply(2), &after, "a stretch behind an earlier difference");
 }
 

@@ -60,6 +60,8 @@ static void fresh_and_full_tables(const struct engine *engine)
                 struct scene scene = fresh_scene(engine, n, all_servers(n));
                 fill_figures(&scene, counts[log], counts[mark]);
                 writes_image(engine, &scene, name);
+                fill_bakes(&scene);
+                writes_image(engine, &scene, name);
                 give_rule(&scene, RULE_2);
                 give_floor(&scene, MOST_SERVERS);
                 writes_image(engine, &scene, name);
@@ -87,6 +89,48 @@ static void broken_tables(const struct engine *engine)
     give_role(&scene, 2, 2, 1);
     writes(engine, scene.table, TABLE_BYTES, MOST_BUFFER_BYTES, 1, &image, "write of a broken table");
     writes(engine, scene.table, TABLE_BYTES, 0, 1, &image, "write of a broken table into no buffer");
+    give_role(&scene, 2, PRIMARY, 1);
+    GIVE_BAKES(&scene, 3, 1);
+    writes(engine, scene.table, TABLE_BYTES, MOST_BUFFER_BYTES, 1, &image, "write of a table with a bake of no entry");
+}
+
+/* Wherever it stands, and whichever byte of it is not 0, one bake makes all entries wide. */
+static void one_bake_alone(const struct engine *engine)
+{
+    const uint32_t positions[] = {1, 2, 63, 64};
+    for (uint32_t server = 1; server <= MOST_SERVERS; server++) {
+        for (size_t which = 0; which < sizeof positions / sizeof *positions; which++) {
+            for (uint32_t bake = 1; bake != 0; bake <<= 8) {
+                struct scene scene = fresh_scene(engine, MOST_SERVERS, 1);
+                fill_figures(&scene, MOST_ENTRIES, 0);
+                put_word(scene.table + row_start(server), BAKES + positions[which] - 1, bake);
+                struct image image = image_of_scene(&scene);
+                check(image.bytes[WIDTH_AT] == 1 && image.length == 8524, "one bake makes an image of 8524 bytes");
+                writes_image(engine, &scene, "write of a table with one bake");
+            }
+        }
+    }
+}
+
+/* Read, and written back in fewer bytes: the one image that does not come back as it was. */
+static void needlessly_wide(const struct engine *engine, const struct scene *scene)
+{
+    struct image wide = wide_image_of_scene(scene);
+    reads_as(engine, wide.bytes, wide.length, scene, wide.length, "wide entries and no bake");
+    struct image narrow = image_of_scene(scene);
+    check(narrow.bytes[WIDTH_AT] == 0, "no bake makes entries narrow");
+    writes_image(engine, scene, "write of what was read from wide entries and no bake");
+}
+
+static void no_bake_at_all(const struct engine *engine)
+{
+    for (uint32_t n = 1; n <= MOST_SERVERS; n++) {
+        for (uint32_t entries = 0; entries <= MOST_ENTRIES; entries += 16) {
+            struct scene scene = fresh_scene(engine, n, 1);
+            fill_figures(&scene, entries, 3);
+            needlessly_wide(engine, &scene);
+        }
+    }
 }
 
 static void drawn_tables(const struct engine *engine)
@@ -111,5 +155,7 @@ void check_writing(const struct engine *engine)
 {
     fresh_and_full_tables(engine);
     broken_tables(engine);
+    one_bake_alone(engine);
+    no_bake_at_all(engine);
     drawn_tables(engine);
 }

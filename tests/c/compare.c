@@ -4,11 +4,16 @@
 #include <string.h>
 
 #include "generate.h"
+#include "image.h"
 #include "plain_rules.h"
 #include "trial.h"
 
+/* What a trial leaves, or why there is nothing to leave. */
+enum { WITH_BAKES, WITHOUT_BAKES, STRAY_BAKE, BROKEN_OTHERWISE, SORTS };
+
 struct tally {
     uint64_t trials;
+    uint64_t of_sort[SORTS];
     uint64_t actions;
     /* By the rule of the table; one whose rule is none counts for neither. */
     uint64_t given[RULE_2 + 1][NUMBERS];
@@ -29,7 +34,7 @@ static void fill_plan(struct source *source, struct trial *trial, size_t count)
         return;
     }
     for (size_t piece = 0; piece < count; piece++) {
-        draw_blind_action(source, between(source, 1, MOST_SERVERS), trial->actions + ACTION_BYTES * piece);
+        draw_blind_action(source, &temper, between(source, 1, MOST_SERVERS), trial->actions + ACTION_BYTES * piece);
     }
 }
 
@@ -87,9 +92,32 @@ static void draw_trial(struct source *source, struct trial *trial)
     }
 }
 
+static void clear_stray_bakes(uint8_t *table)
+{
+    for (uint32_t server = 0; server <= MOST_SERVERS; server++) {
+        uint8_t *row = table + row_start(server);
+        uint32_t length = server == 0 ? 0 : word(row, LOG_LENGTH);
+        for (size_t index = length; index < MOST_ENTRIES; index++) {
+            put_word(row, BAKES + index, 0);
+        }
+    }
+}
+
+static uint32_t sort_of(const uint8_t *table)
+{
+    if (plain_is_whole(table, TABLE_BYTES)) {
+        return has_bakes(table) ? WITH_BAKES : WITHOUT_BAKES;
+    }
+    uint8_t cleared[TABLE_BYTES];
+    memcpy(cleared, table, TABLE_BYTES);
+    clear_stray_bakes(cleared);
+    return plain_is_whole(cleared, TABLE_BYTES) ? STRAY_BAKE : BROKEN_OTHERWISE;
+}
+
 static void add_to_tally(struct tally *tally, const struct trial *trial, const struct outcome *outcome)
 {
     tally->trials++;
+    tally->of_sort[sort_of(outcome->table_of_run)]++;
     tally->actions += outcome->pieces;
     uint32_t rule = word(trial->start, RULE);
     if (rule > RULE_2) {
@@ -118,6 +146,24 @@ static bool report_counts(const char *what, const uint64_t (*counts)[NUMBERS], u
     return all_met;
 }
 
+static bool report_sorts(const uint64_t *of_sort)
+{
+    const char *const names[SORTS] = {
+        [WITH_BAKES] = "with bakes",
+        [WITHOUT_BAKES] = "without",
+        [STRAY_BAKE] = "broken by a bake alone",
+        [BROKEN_OTHERWISE] = "broken otherwise",
+    };
+    bool all_met = true;
+    fputs("how many trials leave a table", stdout);
+    for (uint32_t sort = 0; sort < SORTS; sort++) {
+        printf("%s %s: %llu", sort == 0 ? "" : ",", names[sort], (unsigned long long)of_sort[sort]);
+        all_met = all_met && of_sort[sort] > 0;
+    }
+    putchar('\n');
+    return all_met;
+}
+
 static bool report_tally(const struct tally *tally)
 {
     printf("%llu actions in %llu trials; shown: %llu pairs of majorities, %llu servers in the way, %llu entries copied by stretches\n",
@@ -125,10 +171,11 @@ static bool report_tally(const struct tally *tally)
            (unsigned long long)tally->servers, (unsigned long long)tally->copied);
     bool all_given = report_counts("how often each number was given", tally->given, TAKEN, NUMBERS - 1);
     bool all_taken = report_counts("how often each kind was taken", tally->taken_of_kind, ELECT, LAST_KIND);
-    if (!all_given || !all_taken) {
-        puts("FAILED: a number was never given, or a kind never taken");
+    bool all_left = report_sorts(tally->of_sort);
+    if (!all_given || !all_taken || !all_left) {
+        puts("FAILED: a number was never given, a kind never taken, or a table of a sort never left");
     }
-    return all_given && all_taken;
+    return all_given && all_taken && all_left;
 }
 
 static void report_difference(struct trial *trial, const struct engine *one, const struct engine *other)

@@ -27,6 +27,21 @@ bool chance(struct source *source, uint32_t percent)
     return below(source, 100) < percent;
 }
 
+uint32_t draw_share_of_bakes(struct source *source)
+{
+    return chance(source, 50) ? 0 : between(source, 1, 100);
+}
+
+/* A few small numbers, so that equal bakes meet often, and else any that there is. */
+uint32_t draw_bake(struct source *source, uint32_t share)
+{
+    if (share == 0 || !chance(source, share)) {
+        return 0;
+    }
+    uint32_t any = (uint32_t)draw(source);
+    return chance(source, 50) ? between(source, 1, 3) : any >> below(source, 32);
+}
+
 /* Plans of one temper only would all end in the same few situations. */
 struct temper draw_temper(struct source *source)
 {
@@ -37,6 +52,7 @@ struct temper draw_temper(struct source *source)
     };
     struct temper temper = {.missing = between(source, 2, 25)};
     temper.spoiled = between(source, 2, 20);
+    temper.baked = draw_share_of_bakes(source);
     for (uint32_t kind = ELECT; kind <= LAST_KIND; kind++) {
         temper.weight[kind] = between(source, weights[kind].least, weights[kind].most);
     }
@@ -45,7 +61,7 @@ struct temper draw_temper(struct source *source)
 
 /* Drawn one after another and not within one call, where C leaves the order open: with another compiler a seed would
  * then name another plan. */
-void draw_blind_action(struct source *source, uint32_t n, uint8_t *action)
+void draw_blind_action(struct source *source, const struct temper *temper, uint32_t n, uint8_t *action)
 {
     uint32_t kind = below(source, LAST_KIND + 2);
     uint32_t i = between(source, 1, n);
@@ -59,7 +75,8 @@ void draw_blind_action(struct source *source, uint32_t n, uint8_t *action)
     }
     bool has_j = names_j(kind) != chance(source, 5);
     bool has_set = names_set(kind) != chance(source, 5);
-    put_action(action, kind, i, has_j ? j : 0, has_set ? set : 0);
+    uint32_t bake = draw_bake(source, temper->baked);
+    put_action(action, kind, i, has_j ? j : 0, kind == WRITE ? bake : has_set ? set & UINT16_MAX : 0);
 }
 
 static uint32_t draw_kind(struct source *source, const struct temper *temper)
@@ -187,7 +204,8 @@ static void thin_voters(struct source *source, const uint8_t *table, struct acti
 
 static void spoil_action(struct source *source, uint32_t n, uint8_t *action)
 {
-    bool has_set = (action[4] | action[5]) != 0;
+    bool has_set = names_set(action[0]);
+    uint32_t bake = action[0] == WRITE ? word(action, 1) : 0;
     uint32_t server = below(source, n);
     uint32_t bit = below(source, 8);
     switch (below(source, 12)) {
@@ -209,6 +227,11 @@ static void spoil_action(struct source *source, uint32_t n, uint8_t *action)
             action[2] = (uint8_t)(server + 1);
         }
         break;
+    }
+    /* Another bake, or a set that is now one, is nothing wrong; the byte before it is. */
+    if (action[0] == WRITE && word(action, 1) != bake) {
+        put_action(action, WRITE, action[1], action[2], bake);
+        action[3] = 1;
     }
 }
 
@@ -236,13 +259,15 @@ void draw_guided_action(struct source *source, const struct temper *temper, cons
     uint32_t n = word(table, SERVERS);
     struct action action;
     if (!find_action(source, temper, table, &action)) {
-        draw_blind_action(source, n, bytes);
+        draw_blind_action(source, temper, n, bytes);
         return;
     }
     thin_voters(source, table, &action);
-    /* Any count is taken as any other is. */
+    /* Any count is taken as any other is, and so is any bake. */
     if (action.kind == STRETCH && chance(source, 70)) {
         action.set = between(source, 1, chance(source, 70) ? 4 : MOST_ENTRIES);
+    } else if (action.kind == WRITE) {
+        action.set = draw_bake(source, temper->baked);
     }
     put_action(bytes, action.kind, action.i, action.j, action.set);
     if (chance(source, temper->spoiled)) {

@@ -14,6 +14,8 @@ struct bases {
     uint32_t set;
     uint32_t trunk_length;
     uint32_t trunk[MOST_ENTRIES];
+    uint32_t share_of_bakes;
+    uint32_t bakes[MOST_ENTRIES];
 };
 
 static uint32_t draw_base(struct source *source)
@@ -46,13 +48,15 @@ static struct bases draw_bases(struct source *source)
     bases.config_term = chance(source, 60) ? bases.term : draw_base(source);
     bases.set = draw_set(source, bases.n);
     bases.trunk_length = chance(source, 80) ? below(source, 8) : between(source, 60, MOST_ENTRIES);
+    bases.share_of_bakes = draw_share_of_bakes(source);
     for (size_t index = 0; index < MOST_ENTRIES; index++) {
         bases.trunk[index] = draw_above(source, bases.term, bases.width, 1);
+        bases.bakes[index] = draw_bake(source, bases.share_of_bakes);
     }
     return bases;
 }
 
-/* Logs that leave one trunk here and there, as logs of one store do. */
+/* Logs that leave one trunk here and there, as logs of one store do; bakes also where terms do not, as in no store. */
 static void draw_log(struct source *source, const struct bases *bases, uint8_t *row)
 {
     uint32_t length = bases->trunk_length;
@@ -63,7 +67,10 @@ static void draw_log(struct source *source, const struct bases *bases, uint8_t *
     put_word(row, LOG_LENGTH, length);
     for (size_t index = 0; index < length; index++) {
         uint32_t own = draw_above(source, bases->term, bases->width, 1);
+        uint32_t own_bake = draw_bake(source, bases->share_of_bakes);
+        bool keeps_bake = index < leaves_at && chance(source, 90);
         put_word(row, ENTRIES + index, index < leaves_at ? bases->trunk[index] : own);
+        put_word(row, BAKES + index, keeps_bake ? bases->bakes[index] : own_bake);
     }
 }
 
@@ -136,9 +143,10 @@ void draw_odd_table(struct source *source, uint8_t *table)
 /* A column that says something in a row of this log length. */
 static size_t draw_column(struct source *source, uint32_t length)
 {
-    uint32_t column = below(source, 8);
+    uint32_t column = below(source, 9);
     bool is_entry = column >= LOG_LENGTH && length > 0;
-    return is_entry ? ENTRIES + below(source, length) : column % LOG_LENGTH;
+    size_t entries = column == 8 ? BAKES : ENTRIES;
+    return is_entry ? entries + below(source, length) : column % LOG_LENGTH;
 }
 
 void disturb_table(struct source *source, uint8_t *table)
@@ -174,12 +182,23 @@ void disturb_table(struct source *source, uint8_t *table)
     put_word(row, column, value);
 }
 
+/* The place of a bake that has no entry; a full log has no such place, and gives its last. */
+static size_t draw_stray_bake(struct source *source, uint32_t length)
+{
+    return BAKES + (length < MOST_ENTRIES ? between(source, length, MOST_ENTRIES - 1) : MOST_ENTRIES - 1);
+}
+
 void spoil_table(struct source *source, uint8_t *table)
 {
     const uint32_t values[] = {
         0, 1, 2, 17, 64, 65, 1 << 16, CEILING, (uint32_t)CEILING + 1, UINT32_C(1) << 31, UINT32_MAX,
     };
-    uint32_t row = below(source, MOST_SERVERS + 1);
+    uint8_t *row = table + row_start(below(source, MOST_SERVERS + 1));
     size_t column = chance(source, 50) ? below(source, ENTRIES) : below(source, ROW_WORDS);
-    put_word(table + row_start(row), column, values[below(source, sizeof values / sizeof *values)]);
+    uint32_t value = values[below(source, sizeof values / sizeof *values)];
+    if (chance(source, 20)) {
+        row = table + row_start(below(source, word(table, SERVERS) + 1));
+        column = draw_stray_bake(source, row == table ? 0 : word(row, LOG_LENGTH));
+    }
+    put_word(row, column, value);
 }

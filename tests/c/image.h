@@ -2,6 +2,7 @@
 #ifndef IMAGE_H
 #define IMAGE_H
 
+#include <stdbool.h>
 #include <stddef.h>
 #include <stdint.h>
 
@@ -9,20 +10,30 @@
 
 enum {
     SERVERS_AT = 4,
+    WIDTH_AT = 5,
     RULE_AT = 6,
     FLOOR_AT = 7,
     OPENING_BYTES = 8,
     CONTENTS_ENTRY_BYTES = 4,
     MARK_BYTES = 4,
-    ENTRY_BYTES = 4,
     MOST_MARKS_BYTES = MARK_BYTES * MOST_ENTRIES
 };
+
+/* How wide entries are, by the number in the image: a term alone, or a term and a bake. */
+enum { NARROW, WIDE };
+
+enum { TERM_BYTES = 4, BAKE_BYTES = 4, WIDE_ENTRY_BYTES = TERM_BYTES + BAKE_BYTES };
+
+static inline size_t entry_bytes(uint32_t width)
+{
+    return width == WIDE ? WIDE_ENTRY_BYTES : TERM_BYTES;
+}
 
 /* A server's body. */
 enum { ROLE_AT = 0, ZERO_AT = 1, SET_AT = 2, TERM_AT = 4, VERSION_AT = 8, CONFIG_TERM_AT = 12, LOG_AT = 16 };
 
 enum {
-    MOST_SERVER_BYTES = LOG_AT + ENTRY_BYTES * MOST_ENTRIES,
+    MOST_SERVER_BYTES = LOG_AT + WIDE_ENTRY_BYTES * MOST_ENTRIES,
     MOST_IMAGE_BYTES = OPENING_BYTES + CONTENTS_ENTRY_BYTES * (1 + MOST_SERVERS) + MOST_MARKS_BYTES
         + MOST_SERVERS * MOST_SERVER_BYTES,
     /* What rehearse takes: an image and the actions behind it. */
@@ -51,7 +62,12 @@ static inline size_t first_body_at(uint32_t n)
     return contents_entry_at(n + 1);
 }
 
-/* Writes the image of a table that is not broken and answers its length, MOST_IMAGE_BYTES at most. */
+bool has_bakes(const uint8_t *table);
+
+/* Writes the image of a table that is not broken as a writer has to; answers its length, MOST_IMAGE_BYTES at most. */
 size_t image_of(const uint8_t *table, uint8_t *image);
+
+/* The same with entries that are wide even where no bake asks for it. */
+size_t wide_image_of(const uint8_t *table, uint8_t *image);
 
 #endif

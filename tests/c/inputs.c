@@ -12,7 +12,7 @@
 #include "plain_rules.h"
 
 /* A feature below CUT is a number, of a reply or of a bad site; none is both. */
-enum { CUT = 35, TOO_LONG, FULL, NO_ACTION_AT_ALL, COPIED, FEATURES };
+enum { CUT = 35, TOO_LONG, FULL, NO_ACTION_AT_ALL, COPIED, BAKE_READ, BAKE_WRITTEN, NEEDLESSLY_WIDE, FEATURES };
 
 /* Past twice the longest input, so that a length kept in 16 or 17 bits shows. The rarest feature takes some hundred
  * tries. */
@@ -39,8 +39,16 @@ static const char *name_of(uint32_t feature)
         [TAKEN] = "taken",       [CUT] = "cut",
         [TOO_LONG] = "too long", [FULL] = "exactly 65,536 bytes",
         [NO_ACTION_AT_ALL] = "no action", [COPIED] = "taken with a count",
+        [BAKE_READ] = "image with bakes", [BAKE_WRITTEN] = "bake written",
+        [NEEDLESSLY_WIDE] = "image with wide entries and no bake",
     };
     return names[feature] != NULL ? names[feature] : names_bad_site(feature) ? "bad site" : "refused";
+}
+
+static bool is_needlessly_wide(const uint8_t *table, uint64_t image_len)
+{
+    uint8_t written[MOST_IMAGE_BYTES];
+    return image_of(table, written) < image_len;
 }
 
 static void count_features(const struct input *input, uint64_t *times)
@@ -57,12 +65,17 @@ static void count_features(const struct input *input, uint64_t *times)
         times[site]++;
         return;
     }
+    times[BAKE_READ] += has_bakes(table);
+    times[NEEDLESSLY_WIDE] += is_needlessly_wide(table, end);
     size_t actions_len = input->length - end;
     size_t count = actions_len / ACTION_BYTES;
     plain_run(table, TABLE_BYTES, input->bytes + end, actions_len, replies, REPLY_BYTES * count);
     for (size_t piece = 0; piece < count; piece++) {
-        times[number_of(reply_at(replies, piece))]++;
-        times[COPIED] += copied_in(reply_at(replies, piece)) != 0;
+        const uint8_t *action = input->bytes + end + ACTION_BYTES * piece;
+        uint64_t reply = reply_at(replies, piece);
+        times[number_of(reply)]++;
+        times[COPIED] += copied_in(reply) != 0;
+        times[BAKE_WRITTEN] += reply == TAKEN && action[0] == WRITE && word(action, 1) != 0;
     }
     times[CUT] += actions_len % ACTION_BYTES != 0;
     times[FULL] += input->length == MOST_INPUT_BYTES;
@@ -123,7 +136,7 @@ static void draw_input(struct source *source, uint32_t feature, struct input *in
     uint8_t table[TABLE_BYTES];
     struct temper temper = draw_temper(source);
     draw_table(source, table);
-    size_t image_len = image_of(table, input->bytes);
+    size_t image_len = draw_image(source, table, input->bytes);
     input->length = draw_length(source, feature, image_len);
     size_t plan_len = input->length - image_len;
     draw_guided_plan(source, &temper, table, (plan_len + ACTION_BYTES - 1) / ACTION_BYTES, plan);

@@ -11,7 +11,7 @@ enum {
     MOST_SERVERS = 16,
     MOST_ENTRIES = 64,
     CEILING = 1000000000,
-    ROW_WORDS = 70,
+    ROW_WORDS = 134,
     ROW_BYTES = 4 * ROW_WORDS,
     TABLE_BYTES = (1 + MOST_SERVERS) * ROW_BYTES,
     ACTION_BYTES = 8,
@@ -19,13 +19,13 @@ enum {
 };
 
 /* Row 0. */
-enum { SERVERS = 0, RULE = 1, FLOOR = 2, SPARE = 3, MARKS = 6 };
+enum { SERVERS = 0, RULE = 1, FLOOR = 2, SPARE = 3, MARKS = 6, MARKS_END = MARKS + MOST_ENTRIES };
 
 /* The rules by their numbers, in a table and in its image. */
 enum { RULE_1, RULE_2 };
 
-/* A server's row. */
-enum { ROLE, TERM, SET, VERSION, CONFIG_TERM, LOG_LENGTH, ENTRIES };
+/* A server's row. Comparisons of logs read terms alone, so an entry goes by its term, and its bake stands apart. */
+enum { ROLE, TERM, SET, VERSION, CONFIG_TERM, LOG_LENGTH, ENTRIES, BAKES = ENTRIES + MOST_ENTRIES };
 
 enum { SECONDARY, PRIMARY };
 
@@ -37,7 +37,7 @@ static inline bool names_j(uint32_t kind)
     return kind == SEND || kind == SPREAD || kind == FETCH || kind == ROLL_BACK || kind == STRETCH;
 }
 
-/* A stretch has its count where others have a set. */
+/* A stretch has its count where others have a set; a write its bake, which goes on over the two bytes behind. */
 static inline bool names_set(uint32_t kind)
 {
     return kind == ELECT || kind == RECONFIGURE || kind == COMMIT || kind == STRETCH;
@@ -116,10 +116,7 @@ static inline void put_action(uint8_t *bytes, uint32_t kind, uint32_t i, uint32_
     bytes[1] = (uint8_t)i;
     bytes[2] = (uint8_t)j;
     bytes[3] = 0;
-    bytes[4] = (uint8_t)set;
-    bytes[5] = (uint8_t)(set >> 8);
-    bytes[6] = 0;
-    bytes[7] = 0;
+    put_word(bytes, 1, set);
 }
 
 static inline uint32_t only(uint32_t server)

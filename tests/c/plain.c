@@ -33,7 +33,7 @@ static bool log_is_whole(const uint8_t *row)
             return false;
         }
     }
-    return words_are_zero(row, ENTRIES + length, ROW_WORDS);
+    return words_are_zero(row, ENTRIES + length, BAKES) && words_are_zero(row, BAKES + length, ROW_WORDS);
 }
 
 static bool server_is_whole(const uint8_t *row, uint32_t n)
@@ -47,12 +47,12 @@ static bool server_is_whole(const uint8_t *row, uint32_t n)
 
 static bool marks_are_whole(const uint8_t *table)
 {
-    for (size_t column = MARKS; column < ROW_WORDS; column++) {
+    for (size_t column = MARKS; column < MARKS_END; column++) {
         if (word(table, column) > CEILING) {
             return false;
         }
     }
-    return words_are_zero(table, SPARE, MARKS);
+    return words_are_zero(table, SPARE, MARKS) && words_are_zero(table, MARKS_END, ROW_WORDS);
 }
 
 bool plain_is_whole(const uint8_t *table, size_t table_len)

@@ -34,17 +34,25 @@ static void do_spread(const uint8_t *from, uint8_t *to)
     put_word(to, ROLE, SECONDARY);
 }
 
-static void append(uint8_t *row, uint32_t entry)
+static void append(uint8_t *row, uint32_t term, uint32_t bake)
 {
     uint32_t length = word(row, LOG_LENGTH);
-    put_word(row, ENTRIES + length, entry);
+    put_word(row, ENTRIES + length, term);
+    put_word(row, BAKES + length, bake);
     put_word(row, LOG_LENGTH, length + 1);
+}
+
+static void do_fetch(uint8_t *fetcher, const uint8_t *source)
+{
+    uint32_t length = word(fetcher, LOG_LENGTH);
+    append(fetcher, word(source, ENTRIES + length), word(source, BAKES + length));
 }
 
 static void do_roll_back(uint8_t *row)
 {
     uint32_t length = word(row, LOG_LENGTH) - 1;
     put_word(row, ENTRIES + length, 0);
+    put_word(row, BAKES + length, 0);
     put_word(row, LOG_LENGTH, length);
 }
 
@@ -66,10 +74,10 @@ void plain_do(uint8_t *table, const struct action *action)
         do_spread(row, other);
         break;
     case WRITE:
-        append(row, word(row, TERM));
+        append(row, word(row, TERM), action->set);
         break;
     case FETCH:
-        append(row, word(other, ENTRIES + word(row, LOG_LENGTH)));
+        do_fetch(row, other);
         break;
     case ROLL_BACK:
         do_roll_back(row);

@@ -8,14 +8,14 @@
 static bool opens_rightly(const uint8_t *image)
 {
     return memcmp(image, "SITE", SERVERS_AT) == 0
-        && image[RULE_AT - 1] == 0 && image[RULE_AT] <= RULE_2 && image[FLOOR_AT] <= MOST_SERVERS;
+        && image[WIDTH_AT] <= WIDE && image[RULE_AT] <= RULE_2 && image[FLOOR_AT] <= MOST_SERVERS;
 }
 
-static bool is_length_of(uint32_t body, size_t length)
+static bool is_length_of(uint32_t body, uint32_t width, size_t length)
 {
     size_t fixed = body == 0 ? 0 : LOG_AT;
-    size_t most = body == 0 ? MOST_MARKS_BYTES : MOST_SERVER_BYTES;
-    return length >= fixed && length <= most && (length - fixed) % 4 == 0;
+    size_t each = body == 0 ? MARK_BYTES : entry_bytes(width);
+    return length >= fixed && length <= fixed + each * MOST_ENTRIES && (length - fixed) % each == 0;
 }
 
 /* Where the last body ends, if the contents name bodies that follow each other within the input; else 0. The sum is
@@ -29,7 +29,7 @@ static size_t bodies_end(const uint8_t *image, size_t image_len, uint32_t n)
     for (uint32_t body = 0; body <= n; body++) {
         const uint8_t *entry = image + contents_entry_at(body);
         size_t length = half(entry + 2);
-        if (half(entry) != place || !is_length_of(body, length)) {
+        if (half(entry) != place || !is_length_of(body, image[WIDTH_AT], length)) {
             return 0;
         }
         place += length;
@@ -43,15 +43,27 @@ static bool read_marks(const uint8_t *body, size_t length, uint8_t *table)
     return length == 0 || word(body, length / MARK_BYTES - 1) != 0;
 }
 
-static bool read_server(const uint8_t *body, size_t length, uint8_t *row)
+static void read_log(const uint8_t *log, uint32_t width, size_t length, uint8_t *row)
+{
+    put_word(row, LOG_LENGTH, (uint32_t)length);
+    if (width == NARROW) {
+        memcpy(row + 4 * ENTRIES, log, TERM_BYTES * length);
+        return;
+    }
+    for (size_t index = 0; index < length; index++) {
+        put_word(row, ENTRIES + index, word(log, 2 * index));
+        put_word(row, BAKES + index, word(log, 2 * index + 1));
+    }
+}
+
+static bool read_server(const uint8_t *body, uint32_t width, size_t length, uint8_t *row)
 {
     put_word(row, ROLE, body[ROLE_AT]);
     put_word(row, TERM, word(body + TERM_AT, 0));
     put_word(row, SET, half(body + SET_AT));
     put_word(row, VERSION, word(body + VERSION_AT, 0));
     put_word(row, CONFIG_TERM, word(body + CONFIG_TERM_AT, 0));
-    put_word(row, LOG_LENGTH, (uint32_t)((length - LOG_AT) / ENTRY_BYTES));
-    memcpy(row + 4 * ENTRIES, body + LOG_AT, length - LOG_AT);
+    read_log(body + LOG_AT, width, (length - LOG_AT) / entry_bytes(width), row);
     return body[ZERO_AT] == 0;
 }
 
@@ -68,7 +80,8 @@ static bool read_bodies(const uint8_t *image, uint32_t n, uint8_t *table)
         const uint8_t *entry = image + contents_entry_at(body);
         const uint8_t *bytes = image + half(entry);
         size_t length = half(entry + 2);
-        right &= body == 0 ? read_marks(bytes, length, table) : read_server(bytes, length, table + row_start(body));
+        right &= body == 0 ? read_marks(bytes, length, table)
+                           : read_server(bytes, image[WIDTH_AT], length, table + row_start(body));
     }
     return right && plain_is_whole(table, TABLE_BYTES);
 }

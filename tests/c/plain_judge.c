@@ -4,15 +4,21 @@
 
 #include "layout.h"
 
+/* The greatest number that the last four bytes of an action may be, for 3 to leave them alone. */
+static uint32_t greatest_named(uint32_t kind)
+{
+    return kind == WRITE ? UINT32_MAX : names_set(kind) ? UINT16_MAX : 0;
+}
+
 uint32_t plain_parse(const uint8_t *bytes, uint32_t n, struct action *action)
 {
-    *action = (struct action){bytes[0], bytes[1], bytes[2], (uint32_t)bytes[4] | (uint32_t)bytes[5] << 8};
+    *action = (struct action){bytes[0], bytes[1], bytes[2], word(bytes, 1)};
     if (action->kind < ELECT || action->kind > LAST_KIND) {
         return NO_ACTION;
     }
     bool uses_j = names_j(action->kind);
     bool uses_set = names_set(action->kind);
-    if ((bytes[3] | bytes[6] | bytes[7]) != 0 || (!uses_j && action->j != 0) || (!uses_set && action->set != 0)) {
+    if (bytes[3] != 0 || (!uses_j && action->j != 0) || action->set > greatest_named(action->kind)) {
         return STRAY_FIELD;
     }
     if (action->i < 1 || action->i > n || (uses_j && (action->j < 1 || action->j > n))) {

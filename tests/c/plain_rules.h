@@ -45,7 +45,7 @@ struct action {
     uint32_t kind;
     uint32_t i;
     uint32_t j;
-    /* A stretch's count. */
+    /* Or a stretch's count, or a write's bake. */
     uint32_t set;
 };
 

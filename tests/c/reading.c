@@ -34,10 +34,27 @@ void fill_figures(struct scene *scene, uint32_t entries, uint32_t positions)
     }
 }
 
+void fill_bakes(struct scene *scene)
+{
+    for (uint32_t server = 1; server <= word(scene->table, SERVERS); server++) {
+        uint8_t *row = scene->table + row_start(server);
+        for (uint32_t index = 0; index < word(row, LOG_LENGTH); index++) {
+            put_word(row, BAKES + index, UINT32_MAX - MOST_ENTRIES * server - index);
+        }
+    }
+}
+
 struct image image_of_scene(const struct scene *scene)
 {
     struct image image;
     image.length = image_of(scene->table, image.bytes);
+    return image;
+}
+
+struct image wide_image_of_scene(const struct scene *scene)
+{
+    struct image image;
+    image.length = wide_image_of(scene->table, image.bytes);
     return image;
 }
 

@@ -14,7 +14,13 @@ struct image {
  * is marked. */
 void fill_figures(struct scene *scene, uint32_t entries, uint32_t positions);
 
+/* Gives every entry a bake of its own. */
+void fill_bakes(struct scene *scene);
+
 struct image image_of_scene(const struct scene *scene);
+
+/* With entries of 8 bytes even where all bakes are 0. */
+struct image wide_image_of_scene(const struct scene *scene);
 
 uint8_t *contents_entry(struct image *image, uint32_t body);
 

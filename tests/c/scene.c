@@ -76,6 +76,14 @@ void give_log(struct scene *scene, uint32_t server, size_t length, const uint32_
     put_word(row, LOG_LENGTH, (uint32_t)length);
     for (size_t index = 0; index < MOST_ENTRIES; index++) {
         put_word(row, ENTRIES + index, index < length ? entries[index] : 0);
+        put_word(row, BAKES + index, 0);
+    }
+}
+
+void give_bakes(struct scene *scene, uint32_t server, size_t count, const uint32_t *bakes)
+{
+    for (size_t index = 0; index < count; index++) {
+        put_word(scene->table + row_start(server), BAKES + index, bakes[index]);
     }
 }
 
@@ -98,6 +106,9 @@ struct scene ready_scene(const struct engine *engine)
     GIVE_LOG(&scene, 2, 1);
     GIVE_LOG(&scene, 3, 1, 2);
     GIVE_LOG(&scene, 4, 1, 1);
+    GIVE_BAKES(&scene, 1, 41, 42);
+    GIVE_BAKES(&scene, 2, 43);
+    GIVE_BAKES(&scene, 4, 0, UINT32_MAX);
     give_mark(&scene, 2, 2);
     return scene;
 }

@@ -35,11 +35,14 @@ void give_rule(struct scene *scene, uint32_t rule);
 void give_floor(struct scene *scene, uint32_t floor);
 void give_role(struct scene *scene, uint32_t server, uint32_t role, uint32_t term);
 void give_configuration(struct scene *scene, uint32_t server, uint32_t set, uint32_t version, uint32_t config_term);
+/* All bakes of the log are 0, whatever they were; give_bakes gives its first entries others. */
 void give_log(struct scene *scene, uint32_t server, size_t length, const uint32_t *entries);
+void give_bakes(struct scene *scene, uint32_t server, size_t count, const uint32_t *bakes);
 void give_mark(struct scene *scene, uint32_t position, uint32_t term);
 
-#define GIVE_LOG(scene, server, ...)                                                                              \
-    give_log(scene, server, sizeof((uint32_t[]){__VA_ARGS__}) / sizeof(uint32_t), (uint32_t[]){__VA_ARGS__})
+#define LISTED(...) sizeof((uint32_t[]){__VA_ARGS__}) / sizeof(uint32_t), (uint32_t[]){__VA_ARGS__}
+#define GIVE_LOG(scene, server, ...) give_log(scene, server, LISTED(__VA_ARGS__))
+#define GIVE_BAKES(scene, server, ...) give_bakes(scene, server, LISTED(__VA_ARGS__))
 
 /* Four servers on which one action of each kind is taken: ready_action(kind). */
 struct scene ready_scene(const struct engine *engine);
@@ -61,6 +64,7 @@ void check_errors(const struct engine *engine);
 void check_rules(const struct engine *engine);
 void check_servers(const struct engine *engine);
 void check_stretches(const struct engine *engine);
+void check_bakes(const struct engine *engine);
 void check_broken(const struct engine *engine);
 void check_lengths(const struct engine *engine);
 void check_images(const struct engine *engine);

@@ -142,19 +142,25 @@ void trial_shrink(struct trial *trial, const struct engine *one, const struct en
     }
 }
 
+/* To the last that is not 0. */
+static void print_words(const uint8_t *row, size_t from, size_t end)
+{
+    while (end > from && word(row, end - 1) == 0) {
+        end--;
+    }
+    for (size_t column = from; column < end; column++) {
+        printf(" %u", word(row, column));
+    }
+}
+
 /* Words as they stand, because a broken table has no servers to speak of. */
 static void print_table(const uint8_t *table)
 {
     for (uint32_t row = 0; row <= MOST_SERVERS; row++) {
-        const uint8_t *words = table + row_start(row);
-        size_t end = ROW_WORDS;
-        while (end > 0 && word(words, end - 1) == 0) {
-            end--;
-        }
         printf("  row %2u:", row);
-        for (size_t column = 0; column < end; column++) {
-            printf(" %u", word(words, column));
-        }
+        print_words(table + row_start(row), 0, BAKES);
+        fputs("; bakes:", stdout);
+        print_words(table + row_start(row), BAKES, ROW_WORDS);
         putchar('\n');
     }
 }

@@ -55,7 +55,7 @@ module _ (t : Table) (safe : Safe (view t)) where
   own-24 (reconfigure i m) fit z = unnumbered (ownRefusals t (reconfigure i m)) tt z
   own-24 (send i j) fit z = unnumbered (ownRefusals t (send i j)) tt z
   own-24 (spread i j) fit z = unnumbered (ownRefusals t (spread i j)) tt z
-  own-24 (write i) fit z = unnumbered (ownRefusals t (write i)) tt z
+  own-24 (write i B) fit z = unnumbered (ownRefusals t (write i B)) tt z
   own-24 (fetch i j) fit z = unnumbered (ownRefusals t (fetch i j)) tt z
   own-24 (rollBack i j) fit z = unnumbered (ownRefusals t (rollBack i j)) tt z
   own-24 (stretch i j c) fit z = unnumbered (ownRefusals t (stretch i j c)) tt z

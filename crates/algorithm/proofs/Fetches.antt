@@ -1,6 +1,6 @@
 -- Single fetches one after another: what they keep, how many are taken, and two stretches joined. Assumes nothing.
 use Prim.Native.Nat.{ℕ, zero, suc, _+_, _-_, _≤_, _<_, min}
-use mathlib.Core.Bool.{Bool, true, false, cond, not, _||_}
+use mathlib.Core.Bool.{Bool, true, false, cond}
 use mathlib.Core.List.{[], _∷_, _++_}
 use mathlib.Core.Logic.{_≢_}
 use mathlib.Core.Path.{_≡_, refl, sym, ap, _∙_}
@@ -16,7 +16,7 @@ use Rattle.words.proofs.Choice.{cond-elim, put-elim}
 use Rattle.words.proofs.Lists.{length-replace, nth-replace, nth-replaced}
 use Rattle.words.proofs.RefusalLaws.{NoneHold, none-hold}
 use Rattle.words.proofs.Tests.{Passes, refuted, both-refuted, fails, fails-false, equal, less, is-equal, is-less, is-true, second-of}
-use Rattle.algorithm.specs.Table.{Entry, Log, Server, Table, absent, count, server, secondary, entryAt, termAt, last, withEntry}
+use Rattle.algorithm.specs.Table.{Entry, Log, Table, absent, count, server, entryAt, termAt, last, withEntry}
 use Rattle.algorithm.specs.Actions.{joins, fetchRefusals, fetchAfter, Fetched, noFetch, oneFetch, fetches}
 use Rattle.algorithm.specs.Run.{known}
 use Rattle.algorithm.proofs.Logs.{length-plus, at-plus-end}

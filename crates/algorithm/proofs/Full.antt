@@ -1,14 +1,15 @@
 -- The algorithm whole, as the theory sees it: a table as functions of a server's number and of a position. Assumes nothing.
 use Prim.Native.Nat.{ℕ, _+_, _-_, _<_}
 use mathlib.Core.Bool.{not}
-use mathlib.Core.List.{List, [], _∷_, _++_}
+use mathlib.Core.List.{List, [], _∷_, _++_, append-nil}
 use mathlib.Core.Logic.{_⊎_}
 use mathlib.Core.Path.{_≡_}
 use lib.Dec.{T}
 use lib.ListN.{length, take}
 use Rattle.members.specs.Members.{Majority}
 use Rattle.members.proofs.Said.{All, Most}
-use Rattle.algorithm.specs.Table.{entry, Log, entryAt, termAt, last, ahead}
+use Rattle.algorithm.specs.Table.{entryOf, Log, entryAt, termAt, last, ahead}
+use Rattle.algorithm.specs.Run.{Written}
 use Rattle.algorithm.proofs.Logless as logless
 use Rattle.algorithm.proofs.Logless.{State}
 use Rattle.words.specs.Lists.{put}
@@ -26,8 +27,7 @@ pub record Marked (mark : ℕ → ℕ) (p t : ℕ) : Type 0 where
 
 pub data Action : Type 0 where
   config : logless.Action → Action
-  write : ℕ → Action
-  fetch roll-back commit : ℕ → ℕ → Action
+  write fetch roll-back commit : ℕ → ℕ → Action
 
 -- P1: i's term is on a mark, and most of i's set is in that term with all that such marks name
 pub record Settled (v : View) (i : ℕ) : Type 0 where
@@ -62,14 +62,14 @@ pub record CanCommit (v : View) (i q : ℕ) : Type 0 where
 
 abbrev pub Allowed : View → Action → Type 0
 Allowed v (config a) = logless.Allowed (v .core) a × LogsAllow v a
-Allowed v (write i) = v .core i .role ≡ 1
+Allowed v (write i B) = v .core i .role ≡ 1
 Allowed v (fetch i j) = CanFetch v i j
 Allowed v (roll-back i j) = CanRollBack v i j
 Allowed v (commit i q) = CanCommit v i q
 
 abbrev pub after : View → Action → View
 after v (config a) = record { core = logless.after (v .core) a; log = v .log; mark = v .mark }
-after v (write i) = record { core = v .core; log = put (v .log) i (v .log i ++ (entry (v .core i .term) ∷ [])); mark = v .mark }
+after v (write i B) = record { core = v .core; log = put (v .log) i (v .log i ++ (entryOf (v .core i .term) B ∷ [])); mark = v .mark }
 after v (fetch i j) =
     record { core = v .core; log = put (v .log) i (v .log i ++ (entryAt (v .log j) (length (v .log i) + 1) ∷ [])); mark = v .mark }
 after v (roll-back i j) = record { core = v .core; log = put (v .log) i (take (length (v .log i) - 1) (v .log i)); mark = v .mark }
@@ -78,23 +78,32 @@ after v (commit i q) = record { core = v .core; log = v .log; mark = put (v .mar
 -- an action on logs and marks alone
 abbrev pub OnLogs : Action → Type 0
 OnLogs (config a) = ⊥
-OnLogs (write i) = Unit {0}
+OnLogs (write i B) = Unit {0}
 OnLogs (fetch i j) = Unit {0}
 OnLogs (roll-back i j) = Unit {0}
 OnLogs (commit i q) = Unit {0}
 
--- Allowed actions on logs and marks, one after another.
-pub data LogMoves : View → View → Type 0 where
-  none : {v : View} → LogMoves v v
-  then : {v v′ : View} (a : Action) → OnLogs a → Allowed v a → LogMoves (after v a) v′ → LogMoves v v′
+-- what an action writes
+abbrev pub wrote : View → Action → List Written
+wrote v (config a) = []
+wrote v (write i B) = record { term = v .core i .term; position = length (v .log i) + 1; bake = B } ∷ []
+wrote v (fetch i j) = []
+wrote v (roll-back i j) = []
+wrote v (commit i q) = []
 
--- What a step of a table is, from v to v′, with the terms ts won: one allowed action on configurations, or any number on logs and marks.
-pub data Moves (v : View) : View → List ℕ → Type 0 where
-  sets : (a : logless.Action) → Allowed v (config a) → Moves v (after v (config a)) (logless.won (v .core) a)
-  logs : {v′ : View} → LogMoves v v′ → Moves v v′ []
+-- Allowed actions on logs and marks, one after another, and what they write.
+pub data LogMoves : View → View → List Written → Type 0 where
+  none : {v : View} → LogMoves v v []
+  then : {v v′ : View} {ws : List Written} (a : Action) → OnLogs a → Allowed v a → LogMoves (after v a) v′ ws → LogMoves v v′ (wrote v a ++ ws)
 
-pub rests : {v : View} → Moves v v []
+-- What a step of a table is, from v to v′, with the terms ts won and ws written: one allowed action on configurations, or any number on logs
+-- and marks.
+pub data Moves (v : View) : View → List ℕ → List Written → Type 0 where
+  sets : (a : logless.Action) → Allowed v (config a) → Moves v (after v (config a)) (logless.won (v .core) a) []
+  logs : {v′ : View} {ws : List Written} → LogMoves v v′ ws → Moves v v′ [] ws
+
+pub rests : {v : View} → Moves v v [] []
 rests = logs none
 
-pub one : {v : View} (a : Action) → OnLogs a → Allowed v a → Moves v (after v a) []
-one a o can = logs (then a o can none)
+pub one : {v : View} (a : Action) → OnLogs a → Allowed v a → Moves v (after v a) [] (wrote v a)
+one {v} a o can = logs (rw (append-nil (wrote v a)) at (then a o can none))

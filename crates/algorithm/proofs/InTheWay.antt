@@ -90,7 +90,7 @@ module _ (t : Table) where
   own-shown (reconfigure i m) fit = reconfigure-shown i m
   own-shown (send i j) fit = quiet-shown (send i j) (sendRefusals t i j) tt
   own-shown (spread i j) fit = quiet-shown (spread i j) (spreadRefusals t i j) tt
-  own-shown (write i) fit = quiet-shown (write i) (writeRefusals t i) tt
+  own-shown (write i B) fit = quiet-shown (write i B) (writeRefusals t i) tt
   own-shown (fetch i j) fit = quiet-shown (fetch i j) (fetchRefusals t i j) tt
   own-shown (rollBack i j) fit = quiet-shown (rollBack i j) (rollBackRefusals t i j) tt
   own-shown (commit i q) (_, w) = commit-shown i q w
@@ -103,7 +103,7 @@ taken-server t (elect i q) = refl
 taken-server t (reconfigure i m) = refl
 taken-server t (send i j) = refl
 taken-server t (spread i j) = refl
-taken-server t (write i) = refl
+taken-server t (write i B) = refl
 taken-server t (fetch i j) = refl
 taken-server t (rollBack i j) = refl
 taken-server t (commit i q) = refl

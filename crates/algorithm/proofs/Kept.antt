@@ -10,7 +10,7 @@ use lib.ListN.{length, take, length-append, length-take, length-replicate}
 use Rattle.members.specs.Members.{within}
 use Rattle.words.proofs.Tests.{Passes, Fails, together, refuted, both-refuted, equal, unequal, less, above, is-at-most}
 use Rattle.words.specs.Lists.{every}
-use Rattle.algorithm.specs.Table.{Entry, entry, Log, Table, count, server, primary, entryAt, withServer, changed, withConfig, withLog, withEntry, ceiling, positions, soundEntry, soundServer, broken, freshServer, fresh, mostServers}
+use Rattle.algorithm.specs.Table.{Entry, entryOf, noEntry, Log, Table, count, server, primary, entryAt, withServer, changed, withConfig, withLog, withEntry, ceiling, largestBake, positions, soundEntry, soundServer, broken, freshServer, fresh, mostServers}
 use Rattle.algorithm.specs.Bytes.{Action, elect, reconfigure, commit, send, spread, fetch, rollBack, write, stretch, unknown, actionOf}
 use Rattle.algorithm.specs.Actions.{fetchRefusals, fetchAfter, steppedDown, winner, nextConfig, joins}
 use Rattle.algorithm.specs.Run.{known, after, step}
@@ -31,12 +31,12 @@ module _ {t : Table} (h : SoundTable t) (i : ℕ) (a : SoundServer (count t) (se
       log-sound (server t i .log ++ (e ∷ [])) (omega (arith, length-append (server t i .log) (e ∷ [])))
       (every-plus soundEntry (server t i .log) e (a .entries) s)
 
-  -- a primary's term can be an entry
-  primary-term : Fails (not (primary (server t i))) → Passes (soundEntry (entry (server t i .term)))
-  primary-term p =
+  -- a primary's term can be an entry's, with any bake
+  primary-entry : {B : ℕ} → B ≤ largestBake → Fails (not (primary (server t i))) → Passes (soundEntry (entryOf (server t i .term) B))
+  primary-entry fits p =
       let e : server t i .role ≡ 1 = equal (refuted p) in
       let some : 1 ≤ server t i .term = ⊎-elim (λ r. r .1) (λ r. absurd (omega arith)) (a .role) in
-      together (is-at-most some) (is-at-most (a .term))
+      together (together (is-at-most some) (is-at-most (a .term))) (is-at-most fits)
 
 -- a taken fetch appends an entry of the other log
 pub fetch-sound : (t : Table) (i j : ℕ) → SoundTable t → Passes (known (count t) i) × Passes (known (count t) j) → NoneHold (fetchRefusals t i j)
@@ -48,7 +48,7 @@ fetch-sound t i j h (i-fits, j-fits) none =
     let (first, _) = both-refuted {a = ltb (length l) (length m)} {b = joins l m} (none 20) in
     let longer : length l < length m = less first in
     entry-sound h i (here-sound h i i-fits) (entryAt m (length l + 1)) (omega (arith, b .short))
-    (every-nth soundEntry m (length l + 1) (entry 0) (b .entries) (omega arith) (omega arith))
+    (every-nth soundEntry m (length l + 1) noEntry (b .entries) (omega arith) (omega arith))
 
 -- a taken action leaves a table that keeps the rules
 pub after-sound : (t : Table) (a : Action) → Taken t a → SoundTable (after t a)
@@ -91,10 +91,10 @@ after-sound t (spread i j) k =
     let h = table-sound (k .sound) in
     with-sound h j (steppedDown (server t i .term) (server t j))
     (stepped-sound (here-sound h j (k .fit .1)) (server t i .term) (here-sound h i (k .fit .0) .term))
-after-sound t (write i) k =
+after-sound t (write i B) k =
     let h = table-sound (k .sound) in
-    let a = here-sound h i (k .fit) in
-    entry-sound h i a (entry (server t i .term)) (above (k .own 19)) (primary-term h i a (k .own 6))
+    let a = here-sound h i (k .fit .0) in
+    entry-sound h i a (entryOf (server t i .term) B) (above (k .own 19)) (primary-entry h i a (k .fit .1) (k .own 6))
 after-sound t (fetch i j) k = fetch-sound t i j (table-sound (k .sound)) (k .fit) (k .own)
 after-sound t (rollBack i j) k =
     let h = table-sound (k .sound) in

@@ -19,6 +19,7 @@ pub mod Taken
 pub mod Runs
 pub mod Stretches
 pub mod Safe
+pub mod Bakes
 pub mod Commit
 pub mod Demands
 pub mod LogInvariant

@@ -6,7 +6,7 @@ use native.Mathlib.Numerals.{add-one}
 use native.Mathlib.Omega.{arith}
 use lib.ListN.{length, take, length-append, length-take, List·getD-append}
 use lib.Seq.{getD-append-seam, getD-take}
-use Rattle.algorithm.specs.Table.{Entry, Log, termAt, last}
+use Rattle.algorithm.specs.Table.{Entry, Log, entryAt, termAt, last}
 use Rattle.words.specs.Lists.{nth}
 
 -- l has an entry of term t at position p
@@ -49,14 +49,20 @@ module _ (l : Log) (e : Entry) where
   pub length-plus : length (l ++ (e ∷ [])) ≡ length l + 1
   length-plus = length-append l (e ∷ [])
 
-  pub at-plus : (p : ℕ) → p ≤ length l → termAt (l ++ (e ∷ [])) p ≡ termAt l p
+  pub entry-plus : (p : ℕ) → p ≤ length l → entryAt (l ++ (e ∷ [])) p ≡ entryAt l p
   unfolding nth
-  at-plus zero h = refl
-  at-plus (suc k) h = ap (λ x. x .term) (List·getD-append l (e ∷ []) _ k h)
+  entry-plus zero h = refl
+  entry-plus (suc k) h = List·getD-append l (e ∷ []) _ k h
+
+  pub entry-plus-end : entryAt (l ++ (e ∷ [])) (length l + 1) ≡ e
+  unfolding nth
+  entry-plus-end = rw add-one (getD-append-seam l e [] _)
+
+  pub at-plus : (p : ℕ) → p ≤ length l → termAt (l ++ (e ∷ [])) p ≡ termAt l p
+  at-plus p h = ap (λ x. x .term) (entry-plus p h)
 
   pub at-plus-end : termAt (l ++ (e ∷ [])) (length l + 1) ≡ e .term
-  unfolding nth
-  at-plus-end = rw add-one (ap (λ x. x .term) (getD-append-seam l e [] _))
+  at-plus-end = ap (λ x. x .term) entry-plus-end
 
   pub plus-holds : {p t : ℕ} → HasEntry l p t → HasEntry (l ++ (e ∷ [])) p t
   plus-holds {p} h =
@@ -66,7 +72,10 @@ module _ (l : Log) where
   pub length-cut : length (take (length l - 1) l) ≡ length l - 1
   length-cut = length-take (length l - 1) l ∙ omega arith
 
-  pub at-cut : (p : ℕ) → p ≤ length l - 1 → termAt (take (length l - 1) l) p ≡ termAt l p
+  pub entry-cut : (p : ℕ) → p ≤ length l - 1 → entryAt (take (length l - 1) l) p ≡ entryAt l p
   unfolding nth
-  at-cut zero h = refl
-  at-cut (suc k) h = ap (λ x. x .term) (getD-take (length l - 1) l k _ h)
+  entry-cut zero h = refl
+  entry-cut (suc k) h = getD-take (length l - 1) l k _ h
+
+  pub at-cut : (p : ℕ) → p ≤ length l - 1 → termAt (take (length l - 1) l) p ≡ termAt l p
+  at-cut p h = ap (λ x. x .term) (entry-cut p h)

@@ -1,5 +1,5 @@
 -- What a step does where no refusal holds, and where one does. Assumes nothing.
-use Prim.Native.Nat.{ℕ, zero, suc, _<_}
+use Prim.Native.Nat.{ℕ, zero, suc, _≤_, _<_}
 use mathlib.Core.Bool.{Bool, true, false, cond, not, _||_, _&&_}
 use mathlib.Core.List.{List, [], _++_, append-nil}
 use mathlib.Core.Logic.{_⊎_, inl, inr, ⊎-elim}
@@ -12,11 +12,11 @@ use borrow.Author.Tests.{eqb-true, eqb-false}
 use Rattle.members.specs.Members.{within}
 use Rattle.words.proofs.RefusalLaws.{NoneHold, lacks, first-later, none-hold, inOrder, EachHeld, each-map, given-each, given-none, given-held}
 use Rattle.words.proofs.Tests.{Passes, Fails, neither, refuted, both-refuted}
-use Rattle.algorithm.specs.Table.{Table, count, broken, positions}
+use Rattle.algorithm.specs.Table.{Table, count, broken, positions, largestBake}
 use Rattle.words.specs.Lists.{every, between}
 use Rattle.words.specs.Refusal.{nothing, Refusal, first, Answer, answer, given, firstShown}
-use Rattle.algorithm.specs.Bytes.{Action, unknown, elect, reconfigure, send, spread, write, fetch, rollBack, commit, kinds, kindOf, iOf, jOf, setOf, usesSet, usesJ, actionOf, stretch, setFits}
-use Rattle.algorithm.specs.Run.{known, commonRefusals, ownRefusals, order, refusals, after, takenShown, answered, step, wins, wonBy}
+use Rattle.algorithm.specs.Bytes.{Action, unknown, elect, reconfigure, send, spread, write, fetch, rollBack, commit, kinds, kindOf, iOf, jOf, setOf, bakeOf, usesSet, usesJ, actionOf, stretch, setFits}
+use Rattle.algorithm.specs.Run.{known, commonRefusals, ownRefusals, order, refusals, after, takenShown, answered, step, wins, broughtBy, writes}
 
 -- ---- the numbers of an action's refusals
 
@@ -28,7 +28,7 @@ own-numbers t (elect i q) = (tt, tt)
 own-numbers t (reconfigure i m) = (tt, tt)
 own-numbers t (send i j) = (tt, tt)
 own-numbers t (spread i j) = (tt, tt)
-own-numbers t (write i) = (tt, tt)
+own-numbers t (write i B) = (tt, tt)
 own-numbers t (fetch i j) = (tt, tt)
 own-numbers t (rollBack i j) = (tt, tt)
 own-numbers t (commit i q) = (tt, tt)
@@ -46,32 +46,32 @@ lowest-first t a = own-numbers t (actionOf a) .1
 
 -- ---- an action whose servers and set are those of a table of n servers
 
--- its servers are known and its set is within n, or its count one that a log can have, as far as its kind uses them
+-- its servers are known, its set is within n, its count one that a log can have and its bake one that an entry can have, as far as its kind uses them
 abbrev pub Fits : ℕ → Action → Type 0
 Fits n unknown = Unit {0}
 Fits n (elect i q) = Passes (known n i) × Passes (within q n)
 Fits n (reconfigure i m) = Passes (known n i) × Passes (within m n)
 Fits n (send i j) = Passes (known n i) × Passes (known n j)
 Fits n (spread i j) = Passes (known n i) × Passes (known n j)
-Fits n (write i) = Passes (known n i)
+Fits n (write i B) = Passes (known n i) × (B ≤ largestBake)
 Fits n (fetch i j) = Passes (known n i) × Passes (known n j)
 Fits n (rollBack i j) = Passes (known n i) × Passes (known n j)
 Fits n (commit i q) = Passes (known n i) × Passes (within q n)
 Fits n (stretch i j c) = (Passes (known n i) × Passes (known n j)) × Passes (between 1 positions c)
 
-fits : (n k i j m : ℕ) → Fails (not (known n i) || usesJ k && not (known n j)) → Fails (usesSet k && not (setFits n k m))
-    → Fits n (getD (kinds i j m) k unknown)
-fits n zero i j m a b = tt
-fits n (suc zero) i j m a b = (refuted (neither a .0), refuted b)
-fits n (suc (suc zero)) i j m a b = (refuted (neither a .0), refuted b)
-fits n (suc (suc (suc zero))) i j m a b = both-refuted a
-fits n (suc (suc (suc (suc zero)))) i j m a b = both-refuted a
-fits n (suc (suc (suc (suc (suc zero))))) i j m a b = refuted (neither a .0)
-fits n (suc (suc (suc (suc (suc (suc zero)))))) i j m a b = both-refuted a
-fits n (suc (suc (suc (suc (suc (suc (suc zero))))))) i j m a b = both-refuted a
-fits n (suc (suc (suc (suc (suc (suc (suc (suc zero)))))))) i j m a b = (refuted (neither a .0), refuted b)
-fits n (suc (suc (suc (suc (suc (suc (suc (suc (suc zero))))))))) i j m a b = (both-refuted a, refuted b)
-fits n (suc (suc (suc (suc (suc (suc (suc (suc (suc (suc k)))))))))) i j m a b = tt
+fits : (n k i j m : ℕ) {B : ℕ} → B ≤ largestBake → Fails (not (known n i) || usesJ k && not (known n j)) → Fails (usesSet k && not (setFits n k m))
+    → Fits n (getD (kinds i j m B) k unknown)
+fits n zero i j m w a b = tt
+fits n (suc zero) i j m w a b = (refuted (neither a .0), refuted b)
+fits n (suc (suc zero)) i j m w a b = (refuted (neither a .0), refuted b)
+fits n (suc (suc (suc zero))) i j m w a b = both-refuted a
+fits n (suc (suc (suc (suc zero)))) i j m w a b = both-refuted a
+fits n (suc (suc (suc (suc (suc zero))))) i j m w a b = (refuted (neither a .0), w)
+fits n (suc (suc (suc (suc (suc (suc zero)))))) i j m w a b = both-refuted a
+fits n (suc (suc (suc (suc (suc (suc (suc zero))))))) i j m w a b = both-refuted a
+fits n (suc (suc (suc (suc (suc (suc (suc (suc zero)))))))) i j m w a b = (refuted (neither a .0), refuted b)
+fits n (suc (suc (suc (suc (suc (suc (suc (suc (suc zero))))))))) i j m w a b = (both-refuted a, refuted b)
+fits n (suc (suc (suc (suc (suc (suc (suc (suc (suc (suc k)))))))))) i j m w a b = tt
 
 -- ---- a step
 
@@ -83,7 +83,7 @@ pub record Taken (t : Table) (a : Action) : Type 0 where
 
 -- 1 to 5 do not hold: the table keeps the rules, and the action fits it
 pub common-fit : (t : Table) (a : List ℕ) → NoneHold (commonRefusals t a) → Fails (broken t) × Fits (count t) (actionOf a)
-common-fit t a none = (none 1, fits (count t) (kindOf a) (iOf a) (jOf a) (setOf a) (none 4) (none 5))
+common-fit t a none = (none 1, fits (count t) (kindOf a) (iOf a) (jOf a) (setOf a) {B = bakeOf a} (omega arith) (none 4) (none 5))
 
 -- an action that gets 0 is taken
 pub taken : (t : Table) (a : List ℕ) → first (refusals t a) ≡ 0 → Taken t (actionOf a)
@@ -98,21 +98,23 @@ pub record Done (t : Table) (a : List ℕ) : Type 0 where
   pub taken : Taken t (actionOf a)
   pub number : step t a .number ≡ 0
   pub table : step t a .table ≡ after t (actionOf a)
-  pub won : wonBy t a ≡ wins t (actionOf a)
+  pub won : broughtBy wins t a ≡ wins t (actionOf a)
+  pub wrote : broughtBy writes t a ≡ writes t (actionOf a)
 
 -- a step that is not taken leaves the table
 pub record Rested (t : Table) (a : List ℕ) : Type 0 where
   pub table : step t a .table ≡ t
-  pub won : wonBy t a ≡ []
+  pub won : broughtBy wins t a ≡ []
+  pub wrote : broughtBy writes t a ≡ []
 
 -- every step is one or the other
 pub outcome : (t : Table) (a : List ℕ) → Done t a ⊎ Rested t a
-unfolding step wonBy
+unfolding step broughtBy
 outcome t a = go (eqb (first (refusals t a)) 0) refl
   where
     go : (b : Bool) → eqb (first (refusals t a)) 0 ≡ b → Done t a ⊎ Rested t a
-    go true e = inl (record { taken = taken t a (eqb-true _ _ e); number = eqb-true _ _ e; table = rw e; won = rw e })
-    go false e = inr (record { table = rw e; won = rw e })
+    go true e = inl (record { taken = taken t a (eqb-true _ _ e); number = eqb-true _ _ e; table = rw e; won = rw e; wrote = rw e })
+    go false e = inr (record { table = rw e; won = rw e; wrote = rw e })
 
 -- a refused step leaves the table as it was
 pub refused-stays : (t : Table) (a : List ℕ) → 0 < step t a .number → step t a .table ≡ t

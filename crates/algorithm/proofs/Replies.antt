@@ -11,7 +11,7 @@ use lib.ListN.{length, getD, take, drop}
 use lib.Pow.{pow-mono}
 use lib.Seq.{drop-drop}
 use borrow.Author.Needs.{needs}
-use borrow.Author.Tests.{ne-eqb, eqb-true}
+use borrow.Author.Tests.{ne-eqb}
 use Rattle.words.specs.Lists.{every, between}
 use Rattle.words.specs.Words.{pairOf, valueOf, eight}
 use Rattle.words.specs.Refusal.{Shown, nothing, Refusal, refuseShowing, first, firstShown, Answer, answer, given}
@@ -26,9 +26,9 @@ use Rattle.algorithm.specs.declared.Reply.{Reply}
 use Rattle.algorithm.specs.declared.Reply.the-variants.{Taken, Refused, RefusedAt, Apart, Copied}
 use Rattle.algorithm.specs.Table.{Table, count, server, positions}
 use Rattle.algorithm.specs.Bytes.{Action, unknown, elect, reconfigure, send, spread, write, fetch, rollBack, commit, actionOf, stretch}
-use Rattle.algorithm.specs.Actions.{oneServer, apartShown, majorityRefusals, markRefusals, sendRefusals, spreadRefusals, writeRefusals, fetchRefusals, rollBackRefusals, copiedShown, fetches, electRefusals, commitRefusals}
-use Rattle.algorithm.specs.Run.{answerOf, replyOf, replyBytes, answerIn, repliesBytes, numbers, commonRefusals, ownRefusals, answered, step, pieces, answersIn, play, takenReply, takenShown, refusals}
-use Rattle.algorithm.proofs.Refused.{Fits, step-each, common-fit, taken}
+use Rattle.algorithm.specs.Actions.{oneServer, apartShown, majorityRefusals, markRefusals, sendRefusals, spreadRefusals, writeRefusals, fetchRefusals, rollBackRefusals, copiedShown, fetches}
+use Rattle.algorithm.specs.Run.{answerOf, replyOf, replyBytes, answerIn, repliesBytes, numbers, commonRefusals, ownRefusals, answered, step, pieces, answersIn, play, takenReply, takenShown}
+use Rattle.algorithm.proofs.Refused.{Fits, step-each}
 use Rattle.algorithm.proofs.Fetches.{copied-most}
 use Rattle.algorithm.proofs.Seen.{within-width}
 use Rattle.algorithm.proofs.Sound.{SoundTable, table-sound, here-sound}
@@ -140,7 +140,7 @@ module _ (t : Table) (sound : SoundTable t) where
       (λ _. quietly 6 tt, (λ _. quietly 11 tt, (λ _. quietly 12 tt, (shown, (λ _. quietly 25 tt, rest)))))
   own-carried (send i j) fit = quiet-carried (sendRefusals t i j) tt
   own-carried (spread i j) fit = quiet-carried (spreadRefusals t i j) tt
-  own-carried (write i) fit = quiet-carried (writeRefusals t i) tt
+  own-carried (write i B) fit = quiet-carried (writeRefusals t i) tt
   own-carried (fetch i j) fit = quiet-carried (fetchRefusals t i j) tt
   own-carried (rollBack i j) fit = quiet-carried (rollBackRefusals t i j) tt
   own-carried (commit i q) fit =
@@ -158,7 +158,7 @@ taken-carried t (elect i q) fit = nothing-carried
 taken-carried t (reconfigure i m) fit = nothing-carried
 taken-carried t (send i j) fit = nothing-carried
 taken-carried t (spread i j) fit = nothing-carried
-taken-carried t (write i) fit = nothing-carried
+taken-carried t (write i B) fit = nothing-carried
 taken-carried t (fetch i j) fit = nothing-carried
 taken-carried t (rollBack i j) fit = nothing-carried
 taken-carried t (commit i q) fit = nothing-carried

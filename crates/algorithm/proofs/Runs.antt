@@ -12,7 +12,7 @@ use lib.Seq.{take-append-le, drop-append-le, drop-drop}
 use Rattle.words.proofs.Tests.{Fails, fails-false, false-fails, neither, one-refuted, equal, unequal}
 use Rattle.algorithm.specs.Table.{Server, Table, broken, server, mark, withServers, withMarks}
 use Rattle.algorithm.specs.Bytes.{Action, unknown, elect, reconfigure, send, spread, write, fetch, rollBack, commit, stretch, actionOf}
-use Rattle.algorithm.specs.Run.{after, answered, step, pieces, pieceCount, Ran, play, runTo, run, wonBy, wonAlong}
+use Rattle.algorithm.specs.Run.{after, answered, step, pieces, pieceCount, Ran, play, runTo, run, broughtBy, along}
 use Rattle.words.proofs.Choice.{put-elim}
 use Rattle.words.proofs.Lists.{nth-replace}
 use Rattle.algorithm.proofs.Refused.{Taken, outcome}
@@ -45,13 +45,13 @@ play-append t [] q = refl
 play-append t (a ∷ p) q =
     ap (λ (r : Ran). record { replies = answered (step t a) ∷ r .replies; table = r .table }) (play-append (step t a .table) p q)
 
--- and the terms won are those of both
-pub won-append : (t : Table) (p q : List (List ℕ)) → wonAlong t (p ++ q) ≡ wonAlong t p ++ wonAlong (play t p .table) q
-unfolding play wonAlong
-won-append t [] q = refl
-won-append t (a ∷ p) q =
-    ap (λ (l : List ℕ). wonBy t a ++ l) (won-append (step t a .table) p q)
-    ∙ sym (append-assoc (wonBy t a) (wonAlong (step t a .table) p) (wonAlong (play (step t a .table) p .table) q))
+-- and they bring about what both do
+pub along-append : {A : Type 0} (f : Table → Action → List A) (t : Table) (p q : List (List ℕ)) → along f t (p ++ q) ≡ along f t p ++ along f (play t p .table) q
+unfolding play along
+along-append f t [] q = refl
+along-append f t (a ∷ p) q =
+    ap (λ l. broughtBy f t a ++ l) (along-append f (step t a .table) p q)
+    ∙ sym (append-assoc (broughtBy f t a) (along f (step t a .table) p) (along f (play (step t a .table) p .table) q))
 
 -- of k whole actions and then another plan, the pieces are those of the first and then those of the second
 pub pieces-append : (k j n : ℕ) (p q : List ℕ) → length p ≡ 8 * k → n ≡ k + j → pieces n (p ++ q) ≡ pieces k p ++ pieces j q
@@ -124,7 +124,7 @@ marks-after t (elect i q) k p o = refl
 marks-after t (reconfigure i m) k p o = refl
 marks-after t (send i j) k p o = refl
 marks-after t (spread i j) k p o = refl
-marks-after t (write i) k p o = refl
+marks-after t (write i B) k p o = refl
 marks-after t (fetch i j) k p o = refl
 marks-after t (rollBack i j) k p o = refl
 marks-after t (commit i q) k p o = commit-marks t i q k p o
@@ -150,7 +150,7 @@ module _ {A : Type 0} (f : Table → A) (servers : (ss : List Server) (t : Table
   after-stays t (reconfigure i m) = servers _ t
   after-stays t (send i j) = servers _ t
   after-stays t (spread i j) = servers _ t
-  after-stays t (write i) = servers _ t
+  after-stays t (write i B) = servers _ t
   after-stays t (fetch i j) = servers _ t
   after-stays t (rollBack i j) = servers _ t
   after-stays t (commit i q) = marks _ t

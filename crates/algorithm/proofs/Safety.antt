@@ -11,7 +11,7 @@ use lib.Dec.{T}
 use lib.ListN.{length, take}
 use Rattle.members.proofs.Said.{Most, Hits}
 use Rattle.members.proofs.Majorities.{most-hits, most-map}
-use Rattle.algorithm.specs.Table.{Config, Entry, Log, entryAt, termAt, last, ahead, entry}
+use Rattle.algorithm.specs.Table.{Config, Entry, Log, entryAt, termAt, last, ahead, entryOf}
 use Rattle.algorithm.proofs.Logless as logless
 use Rattle.algorithm.proofs.Logless.{State, CanElect, CanReconfigure}
 use Rattle.words.specs.Lists.{put}
@@ -164,7 +164,7 @@ module _ (t : View) (inv : Inv (t .core)) (log : LogInv (t .core) (t .log) (Mark
 
   pub logs-after : (a : Action) → Allowed t a → LogInv (after t a .core) (after t a .log) (Marked (after t a .mark))
   logs-after (config a) (can, up) = config-keeps a can up
-  logs-after (write i) p = write-keeps inv log (primary-leads p) (entry (c i .term)) (sym (inv .own (primary-leads p)))
+  logs-after (write i B) p = write-keeps inv log (primary-leads p) (entryOf (c i .term) B) (sym (inv .own (primary-leads p)))
   logs-after (fetch i j) can = fetch-keeps i j can
   logs-after (roll-back i j) can = roll-back-keeps i j can
   logs-after (commit i Q) can = commit-case i Q can

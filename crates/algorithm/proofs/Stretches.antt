@@ -1,16 +1,14 @@
 -- A stretch beside the single fetches that it stands for: its reply, its table and its count. Assumes nothing.
-use Prim.Native.Nat.{ℕ, zero, suc, _+_, _-_, _/_, _%_, _≤_, _<_, min}
-use mathlib.Core.Bool.{true, false}
-use mathlib.Core.List.{List, [], _∷_, _++_}
+use Prim.Native.Nat.{ℕ, zero, suc, _+_, _-_, _≤_, _<_, min}
+use mathlib.Core.Bool.{true}
+use mathlib.Core.List.{List}
 use mathlib.Core.Logic.{_≢_}
 use mathlib.Core.Path.{_≡_, refl, sym, ap, _∙_}
 use native.Mathlib.Decide.{ℕ-discrete}
 use native.Mathlib.Omega.{arith}
 use lib.Dec.{ltb}
 use lib.ListN.{length, replicate, replicate-append-replicate}
-use borrow.Author.Tests.{ne-eqb}
-use Rattle.words.specs.Lists.{every, between}
-use Rattle.words.specs.Words.{pairOf}
+use Rattle.words.specs.Lists.{between}
 use Rattle.words.specs.Refusal.{first}
 use Rattle.words.proofs.Lists.{length-replace}
 use Rattle.words.proofs.Tests.{Passes, Fails, together, both-refuted, fails-false, less, is-true, is-at-most}

@@ -14,10 +14,10 @@ use Rattle.words.proofs.Tests.{Passes, both, together, either, neither, refuted
 use Rattle.members.proofs.Majorities.{majority-is, may-follow, most-map, none-passes, most-pass}
 use Rattle.words.specs.Lists.{nth, put}
 use Rattle.words.specs.Refusal.{refuse}
-use Rattle.algorithm.specs.Table.{Log, Server, Table, count, server, entry, entryAt, mark, withConfig, withEntry, withLog, positions, newer, last, held, prefix, primary}
+use Rattle.algorithm.specs.Table.{Log, Server, Table, count, server, entryOf, entryAt, mark, withConfig, withEntry, withLog, positions, newer, last, held, prefix, primary}
 use Rattle.algorithm.specs.Bytes.{Action, elect, reconfigure, commit, send, spread, fetch, rollBack, write, unknown, actionOf, stretch}
 use Rattle.algorithm.specs.Actions.{steppedDown, voted, winner, electAfter, someMarked, holdsMarked, p1, markedOtherwise, nextConfig, reconfigureAfter, sendAfter, spreadAfter, writeAfter, fetchAfter, rollBackAfter, entryRefusals, commitAfter, fetchRefusals, fetches}
-use Rattle.algorithm.specs.Run.{known, after, step, wins, wonBy}
+use Rattle.algorithm.specs.Run.{known, after, step, wins, broughtBy, Written, writes}
 use Rattle.algorithm.proofs.Logless as logless
 use Rattle.algorithm.proofs.Logless.{core}
 use Rattle.words.proofs.Lists.{length-replace, nth-replace}
@@ -82,8 +82,8 @@ mark-range {t} h (suc k) o = (omega arith, go (decLe (suc k) positions))
 -- ---- kind by kind
 
 -- a view that is another's is reached by the same moves
-moved : {v v′ : View} {ts : List ℕ} (t : Table) → view t ≡ v′ → Moves v v′ ts → Moves v (view t) ts
-moved {v} {ts = ts} t e m = subst (λ w. Moves v w ts) (sym e) m
+moved : {v v′ : View} {ts : List ℕ} {ws : List Written} (t : Table) → view t ≡ v′ → Moves v v′ ts ws → Moves v (view t) ts ws
+moved {v} {ts = ts} {ws = ws} t e m = subst (λ w. Moves v w ts ws) (sym e) m
 
 module _ (t : Table) (i q : ℕ) (k : Taken t (elect i q)) where
   elect-view : view (electAfter t i q) ≡ full.after (view t) (full.config (logless.elect i q))
@@ -97,7 +97,7 @@ module _ (t : Table) (i q : ℕ) (k : Taken t (elect i q)) where
         mark = mark t;
       })
 
-  elect-moves : Moves (view t) (view (electAfter t i q)) (wins t (elect i q))
+  elect-moves : Moves (view t) (view (electAfter t i q)) (wins t (elect i q)) []
   elect-moves =
       let width = within-width (count t) (k .fit .1) in
       let (most, self) = both-refuted {a = majority q (server t i .config .set)} {b = member i q} (k .own 7) in
@@ -138,7 +138,7 @@ module _ (t : Table) (i m : ℕ) (k : Taken t (reconfigure i m)) where
             (most-pass (count t) (a .config .set) width _ most);
       }
 
-  reconfigure-moves : Moves (view t) (view (reconfigureAfter t i m)) []
+  reconfigure-moves : Moves (view t) (view (reconfigureAfter t i m)) [] []
   reconfigure-moves =
       let leads : a .role ≡ 1 = equal (refuted (k .own 6)) in
       let in-set : Passes (member i m) = refuted (k .own 12) in
@@ -161,13 +161,13 @@ module _ (t : Table) (i j : ℕ) where
   abbrev m : Log
   m = server t j .log
 
-  send-moves : Taken t (send i j) → Moves (view t) (view (sendAfter t i j)) []
+  send-moves : Taken t (send i j) → Moves (view t) (view (sendAfter t i j)) [] []
   send-moves k =
       let newer : Passes (newer (server t i .config) (server t j .config)) = refuted (k .own 17) in
       moved (sendAfter t i j) (view-core t j (withConfig (server t i .config) (server t j)) (k .fit .1) refl)
       (sets (logless.send i j) (record { secondary = equal (refuted (k .own 6)); newer = newer .yes }, tt))
 
-  spread-moves : Taken t (spread i j) → Moves (view t) (view (spreadAfter t i j)) []
+  spread-moves : Taken t (spread i j) → Moves (view t) (view (spreadAfter t i j)) [] []
   spread-moves k =
       moved (spreadAfter t i j) (view-core t j (steppedDown (server t i .term) (server t j)) (k .fit .1) refl)
       (sets (logless.spread i j) (less (refuted (k .own 18)), tt))
@@ -184,10 +184,10 @@ module _ (t : Table) (i j : ℕ) where
   fetch-view : Passes (known (count t) i) → view (fetchAfter t i j) ≡ full.after (view t) (full.fetch i j)
   fetch-view k = view-log t i (withEntry (entryAt m (length l + 1)) (server t i)) k refl
 
-  fetch-moves : Taken t (fetch i j) → Moves (view t) (view (fetchAfter t i j)) []
+  fetch-moves : Taken t (fetch i j) → Moves (view t) (view (fetchAfter t i j)) [] []
   fetch-moves k = moved (fetchAfter t i j) (fetch-view (k .fit .0)) (one (full.fetch i j) tt (can-fetch (k .own)))
 
-  roll-back-moves : Taken t (rollBack i j) → Moves (view t) (view (rollBackAfter t i j)) []
+  roll-back-moves : Taken t (rollBack i j) → Moves (view t) (view (rollBackAfter t i j)) [] []
   roll-back-moves k =
       let (smaller, apart) = neither {a = not (ltb (last l) (last m))} (k .own 21) in
       moved (rollBackAfter t i j) (view-log t i (withLog (take (length l - 1) l) (server t i)) (k .fit .0) refl)
@@ -198,23 +198,23 @@ module _ (t : Table) (i j : ℕ) where
       }))
 
 -- a stretch is a fetch after another
-stretch-moves : (t : Table) (i j c : ℕ) → Taken t (stretch i j c) → Moves (view t) (view (fetches c t i j .table)) []
+stretch-moves : (t : Table) (i j c : ℕ) → Taken t (stretch i j c) → Moves (view t) (view (fetches c t i j .table)) [] []
 stretch-moves t i j c k = logs (fetches-keep i j Leading leads c t (k .fit .0 .0, λ v more. more) .1 _ full.none)
   where
     -- what is reached from s is reached from t
     Leading : Table → Type 0
-    Leading s = Passes (known (count s) i) × ((v : View) → LogMoves (view s) v → LogMoves (view t) v)
+    Leading s = Passes (known (count s) i) × ((v : View) → LogMoves (view s) v [] → LogMoves (view t) v [])
 
     leads : (s : Table) → NoneHold (fetchRefusals s i j) → Leading s → Leading (fetchAfter s i j)
     leads s none (here, lead) = (
       rw (length-replace (s .servers) i _) here,
-      λ v more. lead v (then (full.fetch i j) tt (can-fetch s i j none) (subst (λ w. LogMoves w v) (fetch-view s i j here) more)),
+      λ v more. lead v (then (full.fetch i j) tt (can-fetch s i j none) (subst (λ w. LogMoves w v []) (fetch-view s i j here) more)),
     )
 
-write-moves : (t : Table) (i : ℕ) → Taken t (write i) → Moves (view t) (view (writeAfter t i)) []
-write-moves t i k =
-    moved (writeAfter t i) (view-log t i (withEntry (entry (server t i .term)) (server t i)) (k .fit) refl)
-    (one (full.write i) tt (equal (refuted (k .own 6))))
+write-moves : (t : Table) (i B : ℕ) → Taken t (write i B) → Moves (view t) (view (writeAfter t i B)) [] (writes t (write i B))
+write-moves t i B k =
+    moved (writeAfter t i B) (view-log t i (withEntry (entryOf (server t i .term) B) (server t i)) (k .fit .0) refl)
+    (one (full.write i B) tt (equal (refuted (k .own 6))))
 
 -- what the refusals before 24 ask of a commit
 pub can-commit : (t : Table) (i q : ℕ) → Passes (within q (count t)) → NoneHold (entryRefusals t i q) → CanCommit (view t) i q
@@ -233,7 +233,7 @@ module _ (t : Table) (i q : ℕ) (k : Taken t (commit i q)) where
   can : CanCommit (view t) i q
   can = can-commit t i q (k .fit .1) (none-before (entryRefusals t i q) (refuse 24 (markedOtherwise t i) ∷ []) (k .own))
 
-  commit-moves : Moves (view t) (view (commitAfter t i q)) []
+  commit-moves : Moves (view t) (view (commitAfter t i q)) [] []
   commit-moves =
       let h = table-sound (k .sound) in
       moved (commitAfter t i q)
@@ -243,19 +243,20 @@ module _ (t : Table) (i q : ℕ) (k : Taken t (commit i q)) where
 
 -- ---- every step
 
-taken-moves : (t : Table) (a : Action) → Taken t a → Moves (view t) (view (after t a)) (wins t a)
+taken-moves : (t : Table) (a : Action) → Taken t a → Moves (view t) (view (after t a)) (wins t a) (writes t a)
 unfolding after
 taken-moves t unknown k = rests
 taken-moves t (elect i q) k = elect-moves t i q k
 taken-moves t (reconfigure i m) k = reconfigure-moves t i m k
 taken-moves t (send i j) k = send-moves t i j k
 taken-moves t (spread i j) k = spread-moves t i j k
-taken-moves t (write i) k = write-moves t i k
+taken-moves t (write i B) k = write-moves t i B k
 taken-moves t (fetch i j) k = fetch-moves t i j k
 taken-moves t (rollBack i j) k = roll-back-moves t i j k
 taken-moves t (commit i q) k = commit-moves t i q k
 taken-moves t (stretch i j c) k = stretch-moves t i j c k
 
 -- whatever table and bytes: a step of the algorithm is moves of the theory
-pub moves : (t : Table) (a : List ℕ) → Moves (view t) (view (step t a .table)) (wonBy t a)
-moves t a = ⊎-elim (λ d. rw (d .table, d .won) (taken-moves t (actionOf a) (d .taken))) (λ r. rw (r .table, r .won) rests) (outcome t a)
+pub moves : (t : Table) (a : List ℕ) → Moves (view t) (view (step t a .table)) (broughtBy wins t a) (broughtBy writes t a)
+moves t a =
+    ⊎-elim (λ d. rw (d .table, d .won, d .wrote) (taken-moves t (actionOf a) (d .taken))) (λ r. rw (r .table, r .won, r .wrote) rests) (outcome t a)

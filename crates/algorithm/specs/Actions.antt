@@ -8,7 +8,7 @@ use lib.ListN.{length}
 use Rattle.words.specs.Refusal.{Shown, nothing, Refusal, refuse, refuseShowing, first, unlessRefused}
 use Rattle.members.specs.Members.{member, majority, somePass, mostPass, lowestIn}
 use Rattle.members.specs.Rules.{mayFollow, belowFloor, oldApart, newApart}
-use Rattle.algorithm.specs.Table.{Config, configOf, entry, Log, Server, Table, count, server, primary, secondary, entryAt, termAt, mark, withServers, withServer, changed, withMark, withRole, withTerm, withConfig, withEntry, withoutLast, ceiling, positions, newer, last, ahead, held, prefix}
+use Rattle.algorithm.specs.Table.{Config, configOf, entryOf, Log, Server, Table, count, server, primary, secondary, entryAt, termAt, mark, withServers, withServer, changed, withMark, withRole, withTerm, withConfig, withEntry, withoutLast, ceiling, positions, newer, last, ahead, held, prefix}
 
 -- ---- what the kinds share
 
@@ -181,7 +181,7 @@ spreadRefusals t i j = refuse 18 (not (ltb (server t j .term) (server t i .term)
 abbrev pub spreadAfter : Table → ℕ → ℕ → Table
 spreadAfter t i j = withServer t j (steppedDown (server t i .term) (server t j))
 
--- ---- 5: write at i
+-- ---- 5: write the bake B at i
 
 -- write: 6 and 19
 abbrev pub writeRefusals : Table → ℕ → List Refusal
@@ -189,9 +189,9 @@ writeRefusals t i =
     let a = server t i in
     refuse 6 (not (primary a)) ∷ refuse 19 (leb positions (length (a .log))) ∷ []
 
--- i's term stands at the end of its log
-abbrev pub writeAfter : Table → ℕ → Table
-writeAfter t i = changed t i (withEntry (entry (server t i .term)))
+-- i's term stands at the end of its log, with the bake B
+abbrev pub writeAfter : Table → ℕ → ℕ → Table
+writeAfter t i B = changed t i (withEntry (entryOf (server t i .term) B))
 
 -- ---- 6: fetch to i from j
 
@@ -208,7 +208,7 @@ fetchRefusals t i j =
     ∷ refuse 20 (not (ltb (length (a .log)) (length (b .log))) || not (joins (a .log) (b .log)))
     ∷ []
 
--- j's entry behind i's length stands at the end of i's log
+-- j's entry behind i's length, its term and its bake, stands at the end of i's log
 abbrev pub fetchAfter : Table → ℕ → ℕ → Table
 fetchAfter t i j = changed t i (withEntry (entryAt (server t j .log) (length (server t i .log) + 1)))
 

@@ -1,13 +1,13 @@
 -- The worked cases of document 01 that are marked to be proved, in its order, each with what it must give, under rule 1 and with no floor, and behind
--- "send 1 to 1" at a primary request (iv)'s at a secondary; and those of document 02 on the two rules and on floors. Assumes nothing.
+-- "send 1 to 1" at a primary request (iv)'s at a secondary; and those of document 02 on the two rules, on floors and on bakes. Assumes nothing.
 use Prim.Native.Nat.{ℕ}
 use mathlib.Core.List.{List, [], _∷_, _++_}
 use lib.ListN.{length, replicate}
 use Rattle.members.specs.Members.{one}
-use Rattle.algorithm.specs.Table.{configOf, entries, Server, Table, server, withServers, withServer, withMark, withRole, withTerm, withConfig, withLog, freshServer, fresh, newer, ahead}
+use Rattle.algorithm.specs.Table.{configOf, entries, Server, Table, server, bakeAt, withServers, withServer, withMark, withRole, withTerm, withConfig, withLog, freshServer, fresh, newer, ahead}
 use Rattle.words.specs.Words.{half}
 use Rattle.algorithm.specs.Actions.{winner}
-use Rattle.algorithm.specs.Run.{numbers, repliesBytes, run}
+use Rattle.algorithm.specs.Run.{numbers, repliesBytes, pieces, run, bakesGiven}
 
 infix 20 _gives_
 -- what a case gives, and what it must give: replies (0 for taken), truth values as 0 and 1, lengths
@@ -122,4 +122,41 @@ floors =
     ∷ (replies (unheard 1) (actionBytes 2 1 0 1) gives 14 ∷ [])
     ∷ (replies (fresh 3 3 0 16) (actionBytes 1 1 0 3) gives 0 ∷ [])
     ∷ (replies (unheard 16) (actionBytes 3 1 2 0) gives 0 ∷ [])
+    ∷ []
+
+-- ---- bakes (document 02, request (viii))
+
+-- a write at server 1 with these last four bytes
+abbrev pub writing : List ℕ → List ℕ
+writing bake = 5 ∷ 1 ∷ 0 ∷ 0 ∷ bake
+
+-- server 1 wins and writes twice; server 2 fetches the first entry, and server 3 copies both
+abbrev pub baked : List ℕ
+baked =
+    actionBytes 1 1 0 3
+    ++ writing (1 ∷ 2 ∷ 3 ∷ 4 ∷ [])
+    ++ writing (replicate 4 255)
+    ++ actionBytes 6 2 1 0
+    ++ actionBytes 9 3 1 2
+
+-- the bake that this leaves at server i at position p
+abbrev pub bakeLeft : ℕ → ℕ → ℕ
+bakeLeft i p = bakeAt (server (run (fresh 3 7 0 0) baked .table) i .log) p
+
+-- a fetch to server 1 from server 2, which has one to give, with these last four bytes
+abbrev pub fetching : List ℕ → List ℕ
+fetching rest = replies (two (1 ∷ []) (1 ∷ 2 ∷ [])) (6 ∷ 1 ∷ 2 ∷ 0 ∷ rest)
+
+-- both writes are taken, their bakes copied, and the second one's known by its term and position; a fetch has none of those bytes, and a write
+-- neither a second server nor byte 3
+unfoldable pub bakes : List Case
+bakes =
+    (replies (fresh 3 7 0 0) baked gives replicate 5 0)
+    ∷ (bakeLeft 2 1 ∷ bakeLeft 3 1 ∷ bakeLeft 3 2 ∷ [] gives 67305985 ∷ 67305985 ∷ 4294967295 ∷ [])
+    ∷ (bakesGiven (fresh 3 7 0 0) (pieces 5 baked) 1 2 gives 4294967295 ∷ [])
+    ∷ (fetching (0 ∷ 0 ∷ 0 ∷ 0 ∷ []) gives 0 ∷ [])
+    ∷ (fetching (1 ∷ 2 ∷ 0 ∷ 0 ∷ []) gives 3 ∷ [])
+    ∷ (fetching (0 ∷ 0 ∷ 3 ∷ 4 ∷ []) gives 3 ∷ [])
+    ∷ (replies alone (5 ∷ 1 ∷ 1 ∷ 0 ∷ replicate 4 0) gives 3 ∷ [])
+    ∷ (replies alone (5 ∷ 1 ∷ 0 ∷ 1 ∷ replicate 4 0) gives 3 ∷ [])
     ∷ []

@@ -10,7 +10,7 @@ use Rattle.words.specs.Refusal.{Shown, nothing, Refusal, refuse, Answer, answer
 use Rattle.algorithm.specs.declared.Reply.{Reply}
 use Rattle.algorithm.specs.declared.Reply.the-variants.{Taken, Refused, RefusedAt, Apart, Copied}
 use Rattle.algorithm.specs.Table.{Table, count, broken, server}
-use Rattle.algorithm.specs.Bytes.{byte, kindOf, iOf, jOf, setOf, usesSet, usesJ, Action, unknown, elect, reconfigure, send, spread, write, fetch, rollBack, commit, actionOf, setFits, stretch}
+use Rattle.algorithm.specs.Bytes.{byte, kindOf, iOf, jOf, setOf, usesSet, usesJ, usesBake, Action, unknown, elect, reconfigure, send, spread, write, fetch, rollBack, commit, actionOf, setFits, stretch}
 use Rattle.algorithm.specs.Actions.{oneServer, twoSets, electRefusals, reconfigureRefusals, sendRefusals, spreadRefusals, writeRefusals, fetchRefusals, rollBackRefusals, commitRefusals, electAfter, reconfigureAfter, sendAfter, spreadAfter, writeAfter, fetchAfter, rollBackAfter, commitAfter, copiedShown, fetches}
 
 -- ---- replies
@@ -55,9 +55,9 @@ numbers rs = map (λ a. a .number) rs
 abbrev pub stray : ℕ → Bool
 stray x = not (eqb x 0)
 
--- one of the three zero bytes is not 0
+-- one of the three zero bytes is not 0; a write has but one, and its bake in the place of the others
 abbrev pub strayZero : List ℕ → Bool
-strayZero bs = stray (byte bs 3) || stray (byte bs 6) || stray (byte bs 7)
+strayZero bs = stray (byte bs 3) || not (usesBake (kindOf bs)) && (stray (byte bs 6) || stray (byte bs 7))
 
 -- i is the number of one of n servers
 abbrev pub known : ℕ → ℕ → Bool
@@ -70,7 +70,7 @@ unknownKind k = not (between 1 9 k)
 -- 3 to 5 of the kind k, beside a table of n servers; z tells whether a zero byte is not 0
 abbrev pub fieldRefusals : ℕ → Bool → ℕ → ℕ → ℕ → ℕ → List Refusal
 fieldRefusals n z k i j M =
-    refuse 3 (z || not (usesJ k) && stray j || not (usesSet k) && stray M)
+    refuse 3 (z || not (usesJ k) && stray j || not (usesSet k || usesBake k) && stray M)
     ∷ refuse 4 (not (known n i) || usesJ k && not (known n j))
     ∷ refuse 5 (usesSet k && not (setFits n k M))
     ∷ []
@@ -92,7 +92,7 @@ ownRefusals t (elect i Q) = electRefusals t i Q
 ownRefusals t (reconfigure i M) = reconfigureRefusals t i M
 ownRefusals t (send i j) = sendRefusals t i j
 ownRefusals t (spread i j) = spreadRefusals t i j
-ownRefusals t (write i) = writeRefusals t i
+ownRefusals t (write i B) = writeRefusals t i
 ownRefusals t (fetch i j) = fetchRefusals t i j
 ownRefusals t (rollBack i j) = rollBackRefusals t i j
 ownRefusals t (commit i Q) = commitRefusals t i Q
@@ -114,7 +114,7 @@ after t (elect i Q) = electAfter t i Q
 after t (reconfigure i M) = reconfigureAfter t i M
 after t (send i j) = sendAfter t i j
 after t (spread i j) = spreadAfter t i j
-after t (write i) = writeAfter t i
+after t (write i B) = writeAfter t i B
 after t (fetch i j) = fetchAfter t i j
 after t (rollBack i j) = rollBackAfter t i j
 after t (commit i Q) = commitAfter t i Q
@@ -127,7 +127,7 @@ takenShown t (elect i Q) = nothing
 takenShown t (reconfigure i M) = nothing
 takenShown t (send i j) = nothing
 takenShown t (spread i j) = nothing
-takenShown t (write i) = nothing
+takenShown t (write i B) = nothing
 takenShown t (fetch i j) = nothing
 takenShown t (rollBack i j) = nothing
 takenShown t (commit i Q) = nothing
@@ -191,6 +191,18 @@ runTo k t p = play t (pieces k p)
 abbrev pub run : Table → List ℕ → Ran
 run t p = runTo (pieceCount p) t p
 
+-- ---- the words of demand 3: what actions bring about along a run
+
+module _ {A : Type 0} where
+  -- what a step brings about, where its action, if taken, brings about f: nothing where it is refused
+  unfoldable pub broughtBy : (Table → Action → List A) → Table → List ℕ → List A
+  broughtBy f t a = unlessRefused (step t a .number) (f t (actionOf a)) []
+
+  -- the same of actions one after another, in order
+  unfoldable pub along : (Table → Action → List A) → Table → List (List ℕ) → List A
+  along f t [] = []
+  along f t (a ∷ rest) = broughtBy f t a ++ along f (step t a .table) rest
+
 -- the term that an action wins where it is taken: for an election i's term + 1, for any other kind none
 abbrev pub wins : Table → Action → List ℕ
 wins t unknown = []
@@ -198,22 +210,49 @@ wins t (elect i q) = (server t i .term + 1) ∷ []
 wins t (reconfigure i m) = []
 wins t (send i j) = []
 wins t (spread i j) = []
-wins t (write i) = []
+wins t (write i B) = []
 wins t (fetch i j) = []
 wins t (rollBack i j) = []
 wins t (commit i q) = []
 wins t (stretch i j c) = []
 
--- the term that a step wins: none where it is refused
-unfoldable pub wonBy : Table → List ℕ → List ℕ
-wonBy t a = unlessRefused (step t a .number) (wins t (actionOf a)) []
-
 -- the terms won by actions one after another
-unfoldable pub wonAlong : Table → List (List ℕ) → List ℕ
-wonAlong t [] = []
-wonAlong t (a ∷ rest) = wonBy t a ++ wonAlong (step t a .table) rest
+abbrev pub wonAlong : Table → List (List ℕ) → List ℕ
+wonAlong t p = along wins t p
 
 -- b < u₁ < u₂ < ..
 abbrev pub Rising : ℕ → List ℕ → Type 0
 Rising b [] = Unit {0}
 Rising b (u ∷ us) = (b < u) × Rising u us
+
+-- what was written: in which term, at which position, and the bake
+pub record Written : Type 0 where
+  pub term : ℕ
+  pub position : ℕ
+  pub bake : ℕ
+
+-- what an action writes where it is taken: a write at i in i's term, behind i's log; any other kind nothing
+abbrev pub writes : Table → Action → List Written
+writes t unknown = []
+writes t (elect i q) = []
+writes t (reconfigure i m) = []
+writes t (send i j) = []
+writes t (spread i j) = []
+writes t (write i B) = record { term = server t i .term; position = length (server t i .log) + 1; bake = B } ∷ []
+writes t (fetch i j) = []
+writes t (rollBack i j) = []
+writes t (commit i q) = []
+writes t (stretch i j c) = []
+
+-- it was written in the term u at position p
+abbrev pub writtenAt : ℕ → ℕ → Written → Bool
+writtenAt u p w = eqb (w .term) u && eqb (w .position) p
+
+-- the bakes that were written in the term u at position p
+unfoldable pub bakesOf : ℕ → ℕ → List Written → List ℕ
+bakesOf u p [] = []
+bakesOf u p (w ∷ ws) = cond (writtenAt u p w) (w .bake ∷ bakesOf u p ws) (bakesOf u p ws)
+
+-- the bakes that the taken writes of a run gave in the term u at position p, in order
+abbrev pub bakesGiven : Table → List (List ℕ) → ℕ → ℕ → List ℕ
+bakesGiven t plan u p = bakesOf u p (along writes t plan)

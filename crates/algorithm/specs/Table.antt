@@ -19,21 +19,26 @@ pub record Config : Type 0 where
 abbrev pub configOf : ℕ → ℕ → ℕ → Config
 configOf M v T = record { set = M; version = v; term = T }
 
--- an entry of a log
+-- an entry of a log: its term, and the bake that it names
 pub record Entry : Type 0 where
   pub term : ℕ
+  pub bake : ℕ
 
--- the entry of the term T
-abbrev pub entry : ℕ → Entry
-entry T = record { term = T }
+-- the entry of these two
+abbrev pub entryOf : ℕ → ℕ → Entry
+entryOf T B = record { term = T; bake = B }
+
+-- what stands for an entry that is not in a log
+abbrev pub noEntry : Entry
+noEntry = entryOf 0 0
 
 -- a log: its entries in order
 abbrev pub Log : Type 0
 Log = List Entry
 
--- the log of these terms
+-- the log of these terms, with bake 0 in each entry
 abbrev pub entries : List ℕ → Log
-entries l = map entry l
+entries l = map (λ T. entryOf T 0) l
 
 -- a server: its role is 0 for secondary, 1 for primary
 pub record Server : Type 0 where
@@ -74,13 +79,17 @@ primary s = eqb (s .role) 1
 abbrev pub secondary : Server → Bool
 secondary s = eqb (s .role) 0
 
--- the entry at a position, and one of term 0 where there is none
+-- the entry at a position, or none
 abbrev pub entryAt : Log → ℕ → Entry
-entryAt l p = nth l p (entry 0)
+entryAt l p = nth l p noEntry
 
 -- the term at a position, or 0
 abbrev pub termAt : Log → ℕ → ℕ
 termAt l p = entryAt l p .term
+
+-- the bake at a position, or 0
+abbrev pub bakeAt : Log → ℕ → ℕ
+bakeAt l p = entryAt l p .bake
 
 -- the term committed at a position, or 0
 abbrev pub mark : Table → ℕ → ℕ
@@ -138,6 +147,10 @@ withoutLast s = withLog (take (length (s .log) - 1) (s .log)) s
 abbrev pub ceiling : ℕ
 ceiling = 1000000000
 
+-- the largest bake: what four bytes hold
+abbrev pub largestBake : ℕ
+largestBake = 4294967295
+
 -- the number of positions: the longest log, and the marks
 abbrev pub positions : ℕ
 positions = 64
@@ -150,9 +163,9 @@ mostServers = 16
 abbrev pub soundConfig : ℕ → Config → Bool
 soundConfig n c = within (c .set) n && between 1 ceiling (c .version) && leb (c .term) ceiling
 
--- an entry: a term 1 to the ceiling
+-- an entry: a term 1 to the ceiling, and a bake up to the largest
 abbrev pub soundEntry : Entry → Bool
-soundEntry e = between 1 ceiling (e .term)
+soundEntry e = between 1 ceiling (e .term) && leb (e .bake) largestBake
 
 -- a server: secondary, or primary of a term from 1; its term up to the ceiling; its configuration, and each of at most 64 entries, as above
 abbrev pub soundServer : ℕ → Server → Bool

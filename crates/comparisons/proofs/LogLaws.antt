@@ -9,7 +9,7 @@ use lib.Dec.{eqb, leb, ltb}
 use lib.ListN.{length, drop}
 use lib.Seq.{drop-cons, drop-length}
 use borrow.Author.Tests.{ltb-true, ltb-false, eq-eqb, ne-eqb, le-leb, lt-leb}
-use Rattle.algorithm.specs.Table.{Entry, entry, Log, termAt, last, held, prefix}
+use Rattle.algorithm.specs.Table.{noEntry, Log, termAt, last, held, prefix}
 use Rattle.words.specs.Lists.{nth}
 use Rattle.algorithm.specs.Actions.{joins}
 
@@ -60,10 +60,9 @@ module _ (l m : Log) where
       → PrefixFrom k l m ok → PrefixFrom (k + 1) l m (ok && s)
   unfolding prefix nth
   prefix-next k n x y ok s es ex ey e c o =
-      let none : Entry = entry 0 in
       record {
         fits = o .fits;
-        left = o .left ∙ rw (drop-cons l k none (omega arith), drop-cons m k none (omega (arith, o .fits)), es, ex, ey, add-one, and-assoc);
+        left = o .left ∙ rw (drop-cons l k noEntry (omega arith), drop-cons m k noEntry (omega (arith, o .fits)), es, ex, ey, add-one, and-assoc);
       }
 
   pub prefix-all : (k n : ℕ) (ok : Bool) → n ≡ length l → k ≤ n → n ≤ k → PrefixFrom k l m ok → ok ≡ prefix l m

@@ -3,7 +3,7 @@ use Prim.Native.Nat.{ℕ, _+_, _≤_}
 use mathlib.Core.Path.{_≡_, _∙_}
 use mathlib.Core.List.{List}
 use lib.ListN.{length}
-use Rattle.algorithm.specs.Table.{entry, Server, absent, server, termAt, withServer, withMark, withRole, withTerm, withConfig, withEntry, positions, configOf}
+use Rattle.algorithm.specs.Table.{entryOf, Server, absent, server, termAt, bakeAt, withServer, withMark, withRole, withTerm, withConfig, withEntry, positions, configOf}
 use Rattle.algorithm.specs.Actions.{steppedDown, reconfigureAfter, sendAfter, spreadAfter, writeAfter, fetchAfter, commitAfter}
 use Rattle.table.specs.Layout.{tableIn}
 use Rattle.table.specs.Slice.{Holds, Held, Became, Within, seen}
@@ -44,17 +44,18 @@ module _ (b b' : List ℕ) (i : ℕ) (a : Row) (e : a ≡ seen (server (tableIn 
       → Holds b' (reconfigureAfter (tableIn b) i m)
   reconfigure-put m h = rw e at (h .holds)
 
-  pub write-put : Became b b' (withServer (tableIn b) i (withEntry (entry (a .figures .term .0)) (server (tableIn b) i)))
-      → Holds b' (writeAfter (tableIn b) i)
-  write-put h = rw e at (h .holds)
+  pub write-put : (B : ℕ) → Became b b' (withServer (tableIn b) i (withEntry (entryOf (a .figures .term .0) B) (server (tableIn b) i)))
+      → Holds b' (writeAfter (tableIn b) i B)
+  write-put B h = rw e at (h .holds)
 
   pub commit-put : (q : ℕ) → Became b b' (withMark (tableIn b) (a .length .0) (a .figures .term .0)) → Holds b' (commitAfter (tableIn b) i q)
   commit-put q h = rw e at (h .holds)
 
-pub fetch-put : (b b' : List ℕ) (i j n v : ℕ) → (n ≡ length (server (tableIn b) i .log)) × (n ≤ positions) → v ≡ termAt (server (tableIn b) j .log) (n + 1)
-    → Became b b' (withServer (tableIn b) i (withEntry (entry v) (server (tableIn b) i)))
+pub fetch-put : (b b' : List ℕ) (i j n v B : ℕ) → (n ≡ length (server (tableIn b) i .log)) × (n ≤ positions)
+    → v ≡ termAt (server (tableIn b) j .log) (n + 1) → B ≡ bakeAt (server (tableIn b) j .log) (n + 1)
+    → Became b b' (withServer (tableIn b) i (withEntry (entryOf v B) (server (tableIn b) i)))
     → Holds b' (fetchAfter (tableIn b) i j)
-fetch-put b b' i j n v (e, _) f h = rw (f, e) at (h .holds)
+fetch-put b b' i j n v B (e, _) f g h = rw (f, g, e) at (h .holds)
 
 -- ---- the last position of a log that was read
 

@@ -8,6 +8,7 @@ ghost use Rattle.words.specs.Refusal.{first};
 ghost use Rattle.table.specs.Layout.{tableIn};
 ghost use Rattle.table.specs.Slice.{Held, Holds, Within};
 use algorithm::Position;
+use table::rows::bake_of;
 use table::rows::entry_of;
 use table::rows::length_of;
 use table::rows::pop;
@@ -15,14 +16,14 @@ use table::rows::push;
 use table::rows::put_mark;
 use table::rows::row_of;
 
-pub fn write(t: &mut [u8], i: usize)
+pub fn write(t: &mut [u8], i: usize, bake: u32)
     requires { ⌜ Held (now t) ⌝ }
     requires { ⌜ Within (now t) i ⌝ }
     requires { ⌜ length (server (tableIn (now t)) i .log) < positions ⌝ }
-    ensures { λ _. ⌜ Holds (now (t .exit)) (writeAfter (tableIn (now (t .entry))) i) ⌝ }
+    ensures { λ _. ⌜ Holds (now (t .exit)) (writeAfter (tableIn (now (t .entry))) i bake) ⌝ }
 {
     let a = row_of(t, i);
-    push(t, i, a.figures.term);
+    push(t, i, a.figures.term, bake);
 }
 
 pub fn fetch(t: &mut [u8], i: usize, j: usize)
@@ -32,9 +33,10 @@ pub fn fetch(t: &mut [u8], i: usize, j: usize)
     requires { ⌜ length (server (tableIn (now t)) i .log) < positions ⌝ }
     ensures { λ _. ⌜ Holds (now (t .exit)) (fetchAfter (tableIn (now (t .entry))) i j) ⌝ }
 {
-    let next = length_of(t, i).0 + 1;
-    let entry = entry_of(t, j, Position(next));
-    push(t, i, entry);
+    let next = Position(length_of(t, i).0 + 1);
+    let entry = entry_of(t, j, next);
+    let bake = bake_of(t, j, next);
+    push(t, i, entry, bake);
 }
 
 // c entries, or all that are left.

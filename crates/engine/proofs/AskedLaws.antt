@@ -34,7 +34,7 @@ fits b (Elect i q) (k, w) = (known-within k, is-true _ (w .yes))
 fits b (Reconfigure i m) (k, w) = (known-within k, is-true _ (w .yes))
 fits b (Send i j) (k, l) = (known-within k, known-within l)
 fits b (Spread i j) (k, l) = (known-within k, known-within l)
-fits b (Write i) k = known-within k
+fits b (Write i B) (k, _) = known-within k
 fits b (Fetch i j) (k, l) = (known-within k, known-within l)
 fits b (RollBack i j) (k, l) = (known-within k, known-within l)
 fits b (Commit i q) (k, w) = (known-within k, is-true _ (w .yes))
@@ -64,7 +64,7 @@ module _ (b : List ℕ) (x : Asked) (i j : ℕ) (f : Fitting b x) where
   pub spread-j : x ≡ Spread i j → Within b j
   spread-j e = (rw e at f) .1
 
-  pub write-i : x ≡ Write i → Within b i
+  pub write-i : x ≡ Write i j → Within b i
   write-i e = rw e at f
 
   pub fetch-i : x ≡ Fetch i j → Within b i
@@ -141,7 +141,7 @@ module _ (b : List ℕ) (x : Asked) (i j : ℕ) (h : Ready b) (f : Fitting b x) 
   reconfigure-below e =
       below-top (none-hold (reconfigureRefusals (tableIn b) i j) tt (rw e at z) 11) (sound-at h (reconfigure-i b x i j f e) .config .version)
 
-  pub write-room : x ≡ Write i → length (server (tableIn b) i .log) < positions
+  pub write-room : x ≡ Write i j → length (server (tableIn b) i .log) < positions
   unfolding every
   write-room e = above (none-hold (writeRefusals (tableIn b) i) tt (rw e at z) 19)
 

@@ -23,7 +23,7 @@ pub fn act(t: &mut [u8], x: Asked) -> Reply
         Asked::Reconfigure(i, m) => configs::reconfigure(t, i, m),
         Asked::Send(i, j) => configs::send(t, i, j),
         Asked::Spread(i, j) => configs::spread(t, i, j),
-        Asked::Write(i) => logs::write(t, i),
+        Asked::Write(i, bake) => logs::write(t, i, bake),
         Asked::Fetch(i, j) => logs::fetch(t, i, j),
         Asked::RollBack(i, _) => logs::roll_back(t, i),
         Asked::Commit(i, _) => logs::commit(t, i),

@@ -27,7 +27,7 @@ pub fn judge(t: &[u8], x: Asked) -> Reply
         Asked::Reconfigure(i, m) => judge_reconfigure(t, i, m),
         Asked::Send(i, j) => judge_send(t, i, j),
         Asked::Spread(i, j) => judge_spread(t, i, j),
-        Asked::Write(i) => judge_write(t, i),
+        Asked::Write(i, _) => judge_write(t, i),
         Asked::Fetch(i, j) => judge_fetch(t, i, j),
         Asked::RollBack(i, j) => judge_roll_back(t, i, j),
         Asked::Commit(i, q) => judge_commit(t, i, q),

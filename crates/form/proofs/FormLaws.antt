@@ -1,5 +1,5 @@
 -- What the bytes of an action tell of its form. Assumes nothing.
-use Prim.Native.Nat.{ℕ, zero, suc, _≤_}
+use Prim.Native.Nat.{ℕ, zero, suc, _≤_, _<_}
 use native.Mathlib.Omega.{arith}
 use mathlib.Core.Path.{_≡_, refl, sym, ap, subst, _∙_}
 use mathlib.Core.Bool.{Bool, true, false, cond, _&&_}
@@ -8,6 +8,8 @@ use lib.Dec.{eqb, leb}
 use lib.ListN.{length, getD}
 use borrow.Author.Tests.{eq-eqb, ne-eqb, eqb-true}
 use mir.Facts.{eqb-no}
+use Rattle.words.specs.Words.{words}
+use Rattle.words.proofs.WordLaws.{word-at}
 use Rattle.words.specs.Lists.{every, between, allBelow}
 use Rattle.words.specs.Refusal.{Refusal, first}
 use Rattle.words.proofs.Tests.{Passes, both, both-refuted, false-fails, at-most}
@@ -15,7 +17,7 @@ use Rattle.words.proofs.BelowLaws.{all-below}
 use Rattle.words.proofs.RefusalLaws.{none-hold}
 use Rattle.members.specs.Members.{within}
 use Rattle.algorithm.specs.Table.{positions}
-use Rattle.algorithm.specs.Bytes.{kindOf, iOf, jOf, setOf, usesSet, setFits, usesJ, Action, unknown, elect, reconfigure, send, spread, write, fetch, rollBack, commit, stretch, kinds, actionOf}
+use Rattle.algorithm.specs.Bytes.{kindOf, iOf, jOf, setOf, bakeOf, usesSet, setFits, usesJ, Action, unknown, elect, reconfigure, send, spread, write, fetch, rollBack, commit, stretch, kinds, actionOf}
 use Rattle.algorithm.specs.Run.{strayZero, unknownKind, formRefusals}
 use Rattle.form.specs.declared.Asked.{Asked}
 use Rattle.form.specs.declared.Fields.{Fields}
@@ -35,9 +37,13 @@ module _ (n : ℕ) (a : List ℕ) where
   eight-bytes f r o e h =
       rw (eq-eqb (length a) 8 o) (subst (λ (g : Fields). r ≡ formBy (eightRefusals n g) (asks (actionBy g))) e h)
 
-pub fields-read : (a : List ℕ) (m : ℕ) → m ≡ setOf a
-    → _≡_ {A = Fields} (record { kind = kindOf a; i = iOf a; j = jOf a; set = m; stray = strayZero a }) (fieldsOf a)
-fields-read a m e = rw e
+-- the remainder of a word is the word
+pub bake-read : (a : List ℕ) (r : ℕ) → length a ≡ 8 → r < 4294967296 → r ≡ getD (words a) 1 0 → r ≡ bakeOf a
+bake-read a r o l e = omega (arith, word-at a 1 (omega arith))
+
+pub fields-read : (a : List ℕ) (m b : ℕ) → m ≡ setOf a → b ≡ bakeOf a
+    → _≡_ {A = Fields} (record { kind = kindOf a; i = iOf a; j = jOf a; set = m; bake = b; stray = strayZero a }) (fieldsOf a)
+fields-read a m b e f = rw (e, f)
 
 -- ---- refusals 3 to 5
 
@@ -67,11 +73,11 @@ module _ (k x : ℕ) (b : Bool) (e : k ≡ x) where
   uses-set h = rw e h
 
 pub of-kind : (x n : ℕ) (f : Fields) (r : Form) → f .kind ≡ x → unknownKind x ≡ false
-    → r ≡ formBy (refusalsOf n f) (asks (getD (kinds (f .i) (f .j) (f .set)) x unknown)) → r ≡ formBy (eightRefusals n f) (asks (actionBy f))
+    → r ≡ formBy (refusalsOf n f) (asks (getD (kinds (f .i) (f .j) (f .set) (f .bake)) x unknown)) → r ≡ formBy (eightRefusals n f) (asks (actionBy f))
 unfolding first
 of-kind x n f r e known h =
     let here : unknownKind (f .kind) ≡ false = rw e known in
-    let same : actionBy f ≡ getD (kinds (f .i) (f .j) (f .set)) x unknown = rw e in
+    let same : actionBy f ≡ getD (kinds (f .i) (f .j) (f .set) (f .bake)) x unknown = rw e in
     rw (here, same) h
 
 past : {n k : ℕ} → n ≤ k → (k ≡ n → ⊥) → suc n ≤ k
@@ -98,11 +104,11 @@ abbrev isAsking : Form → Bool
 isAsking (Asks x) = true
 isAsking (Refused k) = false
 
-known-asks : (k i j m : ℕ) → 1 ≤ k → k ≤ 9 → Passes (isAsking (asks (getD (kinds i j m) k unknown)))
+known-asks : (k i j m B : ℕ) → 1 ≤ k → k ≤ 9 → Passes (isAsking (asks (getD (kinds i j m B) k unknown)))
 unfolding allBelow
-known-asks zero i j m l h = absurd (omega arith)
-known-asks (suc k) i j m l h =
-    all-below 9 (λ k. isAsking (asks (getD (kinds i j m) (suc k) unknown))) (record { yes = tt }) k (omega arith)
+known-asks zero i j m B l h = absurd (omega arith)
+known-asks (suc k) i j m B l h =
+    all-below 9 (λ k. isAsking (asks (getD (kinds i j m B) (suc k) unknown))) (record { yes = tt }) k (omega arith)
 
 abbrev actionIn : Form → Action
 actionIn (Asks x) = named x
@@ -114,7 +120,7 @@ asked-back (elect i q) = refl
 asked-back (reconfigure i m) = refl
 asked-back (send i j) = refl
 asked-back (spread i j) = refl
-asked-back (write i) = refl
+asked-back (write i B) = refl
 asked-back (fetch i j) = refl
 asked-back (rollBack i j) = refl
 asked-back (commit i q) = refl
@@ -136,7 +142,7 @@ module _ (n : ℕ) (a : List ℕ) where
       go true e h =
           let kind = both-refuted {a = eqb (length a) 8} {b = leb 1 (kindOf a) && leb (kindOf a) 9} (none-hold (formRefusals n a) tt (eqb-true _ _ e) 2) .1 in
           let (least, most) = both kind in
-          absurd ((rw h at (known-asks (kindOf a) (iOf a) (jOf a) (setOf a) (at-most least) (at-most most))) .yes)
+          absurd ((rw h at (known-asks (kindOf a) (iOf a) (jOf a) (setOf a) (bakeOf a) (at-most least) (at-most most))) .yes)
       go false e h =
           let same : first (formRefusals n a) ≡ k = cc in
           (same, λ z. eqb-no (false-fails e .no) (same ∙ z))

@@ -3,7 +3,7 @@ use Prim.Native.Nat.{ℕ}
 use mathlib.Core.List.{List, _∷_}
 use lib.ListN.{getD}
 use Rattle.words.specs.Refusal.{Refusal, refuse, first, unlessRefused}
-use Rattle.algorithm.specs.Bytes.{kindOf, iOf, jOf, setOf, Action, unknown, elect, reconfigure, send, spread, write, fetch, rollBack, commit, stretch, kinds, actionOf}
+use Rattle.algorithm.specs.Bytes.{kindOf, iOf, jOf, setOf, bakeOf, Action, unknown, elect, reconfigure, send, spread, write, fetch, rollBack, commit, stretch, kinds, actionOf}
 use Rattle.algorithm.specs.Run.{strayZero, unknownKind, fieldRefusals, formRefusals}
 use Rattle.form.specs.declared.Asked.{Asked}
 use Rattle.form.specs.declared.Asked.the-variants.{Elect, Reconfigure, Send, Spread, Write, Fetch, RollBack, Commit, Stretch}
@@ -17,7 +17,7 @@ named (Elect i Q) = elect i Q
 named (Reconfigure i M) = reconfigure i M
 named (Send i j) = send i j
 named (Spread i j) = spread i j
-named (Write i) = write i
+named (Write i B) = write i B
 named (Fetch i j) = fetch i j
 named (RollBack i j) = rollBack i j
 named (Commit i Q) = commit i Q
@@ -30,7 +30,7 @@ asks (elect i Q) = Asks (Elect i Q)
 asks (reconfigure i M) = Asks (Reconfigure i M)
 asks (send i j) = Asks (Send i j)
 asks (spread i j) = Asks (Spread i j)
-asks (write i) = Asks (Write i)
+asks (write i B) = Asks (Write i B)
 asks (fetch i j) = Asks (Fetch i j)
 asks (rollBack i j) = Asks (RollBack i j)
 asks (commit i Q) = Asks (Commit i Q)
@@ -48,11 +48,11 @@ formOf n bs = formBy (formRefusals n bs) (asks (actionOf bs))
 
 -- the fields that the bytes have
 abbrev pub fieldsOf : List ℕ → Fields
-fieldsOf bs = record { kind = kindOf bs; i = iOf bs; j = jOf bs; set = setOf bs; stray = strayZero bs }
+fieldsOf bs = record { kind = kindOf bs; i = iOf bs; j = jOf bs; set = setOf bs; bake = bakeOf bs; stray = strayZero bs }
 
 -- the action that the fields name
 abbrev pub actionBy : Fields → Action
-actionBy f = getD (kinds (f .i) (f .j) (f .set)) (f .kind) unknown
+actionBy f = getD (kinds (f .i) (f .j) (f .set) (f .bake)) (f .kind) unknown
 
 -- 3 to 5 of the fields
 abbrev pub refusalsOf : ℕ → Fields → List Refusal

@@ -1,23 +1,26 @@
 -- What the functions on a body find out. Assumes nothing.
 use Prim.Native.Nat.{ℕ, zero, suc, _+_, _-_, _/_, _≤_, _<_}
-use native.Mathlib.Numerals.{sub-one}
+use native.Mathlib.Numerals.{add-one, sub-one}
 use native.Mathlib.Omega.{arith}
 use mathlib.Core.Path.{_≡_, refl, ap, sym, _∙_}
 use mathlib.Core.Bool.{Bool, true, and-true, and-assoc, _&&_}
 use mathlib.Core.List.{List, [], _∷_}
 use lib.Dec.{leb, eqb}
-use lib.ListN.{length, getD, take, drop, length-drop, length-map}
+use lib.ListN.{length, getD, take, drop, length-drop, length-map, List·getD-map}
 use lib.Seq.{take-all, length-take-le}
 use borrow.Author.Tests.{le-leb, ne-eqb}
 use Rattle.words.specs.Lists.{nth, every, between, part}
-use Rattle.algorithm.specs.Table.{entry, entries, withLog, ceiling, positions, soundEntry, soundServer}
+use Rattle.algorithm.specs.Table.{Entry, noEntry, termAt, withLog, ceiling, positions, soundServer}
+use Rattle.table.specs.Layout.{terms}
 use Rattle.table.specs.Slice.{figuresOf, figured}
 use Rattle.table.specs.declared.figures.Figures.{Figures}
 use Rattle.words.specs.Words.{words, halfAt}
 use Rattle.words.proofs.WordLaws.{length-words}
-use Rattle.table.proofs.SoundLaws.{server-parts}
-use Rattle.image.specs.Contents.{countIn, offset, size, stop, body, serverIn, soundMarksBody, soundServerBody, soundAt, soundBodies, Names, Named, Sized}
+use Rattle.words.proofs.Lists.{every-more}
+use Rattle.table.proofs.SoundLaws.{server-parts, terms-sound}
+use Rattle.image.specs.Contents.{countIn, wideIn, offset, size, stop, body, serverIn, soundMarksBody, soundServerBody, soundAt, soundBodies, Names, Named, Sized}
 use Rattle.words.proofs.BelowLaws.{Tested}
+use Rattle.image.proofs.LogLaws.{log-short, bakes-read}
 
 -- ---- the marks
 
@@ -38,33 +41,44 @@ marks-tell b (suc k) v ok e some h l =
 
 -- ---- a server
 
--- how many entries its log has
-pub length-rest : (b : List ℕ) → length (drop 4 (words b)) ≡ length b / 4 - 4
-length-rest b = length-drop 4 (words b) ∙ ap (λ (k : ℕ). k - 4) (length-words b)
-
 pub figures-read : (b : List ℕ) (role term set version config : ℕ) → role ≡ getD b 0 0 → term ≡ getD (words b) 1 0 → set ≡ halfAt b 2
     → version ≡ getD (words b) 2 0 → config ≡ getD (words b) 3 0
     → _≡_ {A = Figures}
     (record { role = role; term = record { 0 = term }; set = set; version = record { 0 = version }; config = record { 0 = config } })
-    (figuresOf (serverIn b))
+    (figuresOf (serverIn 0 b))
 figures-read b role term set version config er et es ev ec = rw (er, et, es, ev, ec)
 
--- an entry is sound by its number
-entries-sound : (l : List ℕ) → every soundEntry (entries l) ≡ every (between 1 ceiling) l
-unfolding every
-entries-sound [] = refl
-entries-sound (x ∷ l) = ap (λ (r : Bool). soundEntry (entry x) && r) (entries-sound l)
+-- the terms of the first k entries are tested, and ok tells whether they pass
+pub record Termed (w : ℕ) (b : List ℕ) (k : ℕ) (ok : Bool) : Type 0 where
+  pub tells : ok ≡ every (between 1 ceiling) (take k (terms (serverIn w b .log)))
 
-pub server-tells : (b : List ℕ) (n : ℕ) (f : Figures) (r e : Bool) → Sized 1 b → f ≡ figuresOf (serverIn b) → r ≡ soundServer n (figured f [])
-    → e ≡ every (between 1 ceiling) (part (words b) 4 (length b / 4 - 4)) → (eqb (getD b 1 0) 0 && r && e) ≡ soundServerBody n b
-server-tells b n f r e h hf hr he =
-    let s = serverIn b in
-    let l = drop 4 (words b) in
-    let all : take (length b / 4 - 4) l ≡ l = take-all (length b / 4 - 4) l (omega (arith, length-rest b)) in
-    let many : length (entries l) ≡ length l = length-map l _ in
-    let short = le-leb (length (entries l)) positions (omega (arith, length-rest b, many, h .most)) in
+module _ (w : ℕ) (b : List ℕ) where
+  pub termed-none : Termed w b 0 true
+  unfolding every
+  termed-none = record { tells = refl }
+
+  module _ (n k : ℕ) (ok : Bool) (many : n ≡ length (serverIn w b .log)) (g : Termed w b k ok) where
+    pub termed-more : (v : ℕ) → k < n → v ≡ termAt (serverIn w b .log) (k + 1) → Termed w b (k + 1) (ok && between 1 ceiling v)
+    unfolding nth
+    termed-more v l e =
+        let log = serverIn w b .log in
+        let there : k < length (terms log) = omega (arith, length-map log (λ (x : Entry). x .term)) in
+        let here : v ≡ getD (terms log) k 0 = (rw add-one at e) ∙ sym (List·getD-map (λ (x : Entry). x .term) log k noEntry) in
+        record { tells = rw (g .tells, here, add-one) (sym (every-more (between 1 ceiling) (terms log) 0 k there)) }
+
+    pub termed-all : n ≤ k → ok ≡ every (between 1 ceiling) (terms (serverIn w b .log))
+    termed-all l =
+        let log = serverIn w b .log in
+        rw (take-all k (terms log) (omega (arith, length-map log (λ (x : Entry). x .term)))) at (g .tells)
+
+pub server-tells : (b : List ℕ) (n w : ℕ) (f : Figures) (r e : Bool) → ((i : ℕ) → getD b i 0 < 256) → Sized w 1 b → f ≡ figuresOf (serverIn 0 b)
+    → r ≡ soundServer n (figured f []) → e ≡ every (between 1 ceiling) (terms (serverIn w b .log)) → (eqb (getD b 1 0) 0 && r && e) ≡ soundServerBody n w b
+server-tells b n w f r e byte h hf hr he =
+    let s = serverIn w b in
+    let short = le-leb (length (s .log)) positions (log-short b w h) in
     let spare = eqb (getD b 1 0) 0 in
-    let both : (r && e) ≡ soundServer n s = rw (server-parts n s, short, entries-sound l, hr, hf, he, all, and-true (soundServer n (withLog [] s))) in
+    let both : (r && e) ≡ soundServer n s =
+    rw (server-parts n s, short, terms-sound (s .log) (bakes-read w b byte), hr, hf, he, and-true (soundServer n (withLog [] s))) in
     and-assoc spare r e ∙ ap (λ (x : Bool). spare && x) both
 
 -- ---- the part that an entry names
@@ -75,21 +89,21 @@ module _ (im : List ℕ) (e at z : ℕ) (ha : at ≡ offset im e) (hz : z ≡ st
       let long : stop im e - offset im e ≡ size im e = omega arith in
       rw (ha, hz, long)
 
-  pub part-sized : Names im e → Sized e (take (z - at) (drop at im))
+  pub part-sized : Names im e → Sized (wideIn im) e (take (z - at) (drop at im))
   part-sized h =
       let long = length-take-le (size im e) (drop (offset im e) im) (omega (arith, length-drop (offset im e) im, h .within)) in
       rw part-body (record { least = omega (arith, h .least); most = omega (arith, h .most) })
 
-pub server-sized : (e : ℕ) (b : List ℕ) → Sized e b → 1 ≤ e → Sized 1 b
-server-sized zero b h l = absurd (omega arith)
-server-sized (suc e) b h l = record { least = h .least; most = h .most }
+pub server-sized : (w e : ℕ) (b : List ℕ) → Sized w e b → 1 ≤ e → Sized w 1 b
+server-sized w zero b h l = absurd (omega arith)
+server-sized w (suc e) b h l = record { least = h .least; most = h .most }
 
 module _ (im : List ℕ) where
   pub marks-at : (e : ℕ) (b : List ℕ) (r : Bool) → b ≡ body im e → e < 1 → r ≡ soundMarksBody b → r ≡ soundAt im e
   marks-at zero b r p z h = rw p at h
   marks-at (suc e) b r p z h = absurd (omega arith)
 
-  pub server-at : (e : ℕ) (b : List ℕ) (r : Bool) → b ≡ body im e → 1 ≤ e → r ≡ soundServerBody (countIn im) b → r ≡ soundAt im e
+  pub server-at : (e : ℕ) (b : List ℕ) (r : Bool) → b ≡ body im e → 1 ≤ e → r ≡ soundServerBody (countIn im) (wideIn im) b → r ≡ soundAt im e
   server-at zero b r p z h = absurd (omega arith)
   server-at (suc e) b r p z h = rw p at h
 

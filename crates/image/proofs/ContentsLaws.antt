@@ -9,7 +9,7 @@ use lib.Dec.{leb, eqb}
 use lib.ListN.{length}
 use borrow.Author.Tests.{le-leb, lt-leb}
 use Rattle.algorithm.specs.Table.{positions}
-use Rattle.image.specs.Contents.{countIn, offset, size, stop, firstBody, start, figureBytes, fixed, mayHave, laid, laidOut}
+use Rattle.image.specs.Contents.{countIn, wideIn, offset, size, stop, firstBody, start, figureBytes, fixed, entryBytes, itemBytes, mayHave, laid, laidOut}
 use Rattle.words.proofs.BelowLaws.{Tested}
 
 -- ---- one entry
@@ -18,11 +18,19 @@ pub server-fixed : (e : ℕ) → (e ≡ 0 → ⊥) → figureBytes ≡ fixed e
 server-fixed zero h = absurd (h refl)
 server-fixed (suc e) h = refl
 
-pub has-length : (e v r : ℕ) → r ≡ fixed e → (leb r v && leb v (r + 4 * positions) && eqb (v % 4) 0) ≡ mayHave e v
-has-length e v r h = rw h
+pub wide-entry : (w : ℕ) → (w ≡ 0 → ⊥) → 8 ≡ entryBytes w
+wide-entry zero h = absurd (h refl)
+wide-entry (suc w) h = refl
 
-pub entry-tells : (im : List ℕ) (e a b v z : ℕ) (s : Bool) → a ≡ offset im e → b ≡ start im e → v ≡ size im e → s ≡ mayHave e v
-    → z ≡ stop im e → (eqb a b && s && leb z (length im)) ≡ laid im e
+pub server-item : (w e r : ℕ) → (e ≡ 0 → ⊥) → r ≡ entryBytes w → r ≡ itemBytes w e
+server-item w zero r h k = absurd (h refl)
+server-item w (suc e) r h k = k
+
+pub has-length : (w e v r i : ℕ) → r ≡ fixed e → i ≡ itemBytes w e → (leb r v && leb v (r + i * positions) && eqb (v % i) 0) ≡ mayHave w e v
+has-length w e v r i h k = rw (h, k)
+
+pub entry-tells : (im : List ℕ) (e a b v z : ℕ) (s : Bool) → a ≡ offset im e → b ≡ start im e → v ≡ size im e
+    → s ≡ mayHave (wideIn im) e v → z ≡ stop im e → (eqb a b && s && leb z (length im)) ≡ laid im e
 entry-tells im e a b v z s ha hb hv hs hz = rw (hs, hv, ha, hb, hz)
 
 -- ---- all of them

@@ -9,7 +9,7 @@ use lib.Seq.{getD-append-add, take-append-seam, drop-at}
 use Rattle.words.specs.Words.{half, halfAt}
 use Rattle.algorithm.specs.Table.{Table, absent, count}
 use Rattle.image.specs.Contents.{firstBody, offset, size, stop, body}
-use Rattle.image.specs.Image.{opening, serverBody, bodies, contents, image}
+use Rattle.image.specs.Image.{wide, opening, serverBody, bodies, bodyOf, contents, image}
 
 -- a number of two bytes is read back
 pub half-back : (v : ℕ) → v < 65536 → v % 256 + 256 * (v / 256 % 256) ≡ v
@@ -93,7 +93,7 @@ module _ (t : Table) where
   joined rest = opening t ++ (front ++ (flatten (bodies t) ++ rest))
 
   pub many : length (bodies t) ≡ count t + 1
-  many = omega (arith, length-map (t .servers) serverBody)
+  many = omega (arith, length-map (t .servers) (serverBody (wide t)))
 
   pub length-image : length (image t) ≡ firstBody (count t) + length (flatten (bodies t))
   unfolding image
@@ -106,26 +106,26 @@ module _ (t : Table) where
       ∙ ap (λ (l : List ℕ). opening t ++ l) (append-assoc front (flatten (bodies t)) rest)
 
   module _ (short : firstBody (count t) + length (flatten (bodies t)) < 65536) (rest : List ℕ) (e : ℕ) (h : e ≤ count t) where
-    says : Says (front ++ (flatten (bodies t) ++ rest)) e (place e) (length (getD (bodies t) e (serverBody absent)))
-    says = contents-say (serverBody absent) (firstBody (count t)) (bodies t) e (flatten (bodies t) ++ rest) (omega (arith, many)) short
+    says : Says (front ++ (flatten (bodies t) ++ rest)) e (place e) (length (bodyOf t e))
+    says = contents-say (serverBody (wide t) absent) (firstBody (count t)) (bodies t) e (flatten (bodies t) ++ rest) (omega (arith, many)) short
 
     pub its-offset : offset (joined rest) e ≡ place e
     its-offset = half-past (opening t) (front ++ (flatten (bodies t) ++ rest)) 8 (4 * e) refl ∙ says .offset
 
-    pub its-size : size (joined rest) e ≡ length (getD (bodies t) e (serverBody absent))
+    pub its-size : size (joined rest) e ≡ length (bodyOf t e)
     its-size =
         let on : 10 + 4 * e ≡ 8 + (4 * e + 2) = omega arith in
         rw on (half-past (opening t) (front ++ (flatten (bodies t) ++ rest)) 8 (4 * e + 2) refl ∙ says .size)
 
     pub its-stop : stop (joined rest) e ≡ place (suc e)
     its-stop =
-        let more = flatten-more (serverBody absent) (bodies t) e (omega (arith, many)) in
-        let long = length-append (flatten (take e (bodies t))) (getD (bodies t) e (serverBody absent)) in
+        let more = flatten-more (serverBody (wide t) absent) (bodies t) e (omega (arith, many)) in
+        let long = length-append (flatten (take e (bodies t))) (bodyOf t e) in
         rw (its-offset, its-size, more) (omega (arith, long))
 
-    pub its-body : body (joined rest) e ≡ getD (bodies t) e (serverBody absent)
+    pub its-body : body (joined rest) e ≡ bodyOf t e
     its-body =
         let pre = opening t ++ front in
         let long : length pre ≡ firstBody (count t) = omega (arith, many, length-contents (firstBody (count t)) (bodies t)) in
         rw (its-offset, its-size, ← append-assoc (opening t) front (flatten (bodies t) ++ rest))
-        (body-there (serverBody absent) (place e) pre (bodies t) e rest (omega arith) (omega (arith, many)))
+        (body-there (serverBody (wide t) absent) (place e) pre (bodies t) e rest (omega arith) (omega (arith, many)))

@@ -3,7 +3,7 @@ ghost use mathlib.Core.Path.{_≡_};
 ghost use Prim.Native.Nat.{_≤_, _<_};
 ghost use lib.ListN.{length};
 ghost use Rattle.algorithm.specs.Table.{soundCount};
-ghost use Rattle.image.specs.Contents.{opened, countIn, offset, size, stop, firstBody, start, figureBytes, fixed, mayHave, laid, laidOut};
+ghost use Rattle.image.specs.Contents.{opened, countIn, offset, size, stop, firstBody, start, figureBytes, fixed, entryBytes, itemBytes, mayHave, laid, laidOut};
 use algorithm::POSITIONS;
 use algorithm::RULE_2;
 use algorithm::SERVERS;
@@ -13,8 +13,14 @@ use words::wide;
 // The length of a server's body before its log.
 pub const FIGURE_BYTES: usize = 16;
 
-// The length of the longest log, and of the most marks.
-const LOG_BYTES: usize = 4 * POSITIONS as usize;
+// The widths of entries by their numbers: 0 for a term alone, and this, the last, for a term and a bake.
+const WIDE: u8 = 1;
+
+// The bytes of a mark.
+const MARK_BYTES: usize = 4;
+
+// The most entries, and the most marks.
+const MOST: usize = POSITIONS as usize;
 
 // How many servers the opening says.
 pub fn count_of(image: &[u8]) -> usize
@@ -32,7 +38,7 @@ pub fn is_opened(image: &[u8]) -> bool
         & (image[1] == b'I')
         & (image[2] == b'T')
         & (image[3] == b'E')
-        & (image[5] == 0)
+        & (image[5] <= WIDE)
         & (image[6] <= RULE_2 as u8)
         & (image[7] <= SERVERS)
 }
@@ -85,11 +91,32 @@ fn fixed_of(e: usize) -> usize
     FIGURE_BYTES
 }
 
-fn may_have(e: usize, v: usize) -> bool
-    ensures { λ r. ⌜ r ≡ mayHave e v ⌝ }
+// The bytes of an entry.
+pub fn entry_bytes(width: u8) -> usize
+    ensures { λ r. ⌜ (r ≡ entryBytes width) × (4 ≤ r) × (r ≤ 8) ⌝ }
+{
+    if width == 0 {
+        return 4;
+    }
+    8
+}
+
+// The bytes of a mark or an entry of body e.
+fn item_bytes(width: u8, e: usize) -> usize
+    ensures { λ r. ⌜ (r ≡ itemBytes width e) × (4 ≤ r) × (r ≤ 8) ⌝ }
+{
+    if e == 0 {
+        return MARK_BYTES;
+    }
+    entry_bytes(width)
+}
+
+fn may_have(width: u8, e: usize, v: usize) -> bool
+    ensures { λ r. ⌜ r ≡ mayHave width e v ⌝ }
 {
     let least = fixed_of(e);
-    (least <= v) & (v <= least + LOG_BYTES) & (v % 4 == 0)
+    let item = item_bytes(width, e);
+    (least <= v) & (v <= least + item * MOST) & (v % item == 0)
 }
 
 // Entry e names a body that begins at a place, where the one before it ends.
@@ -99,7 +126,7 @@ fn is_laid(image: &[u8], e: usize, place: usize) -> bool
     ensures { λ r. ⌜ r ≡ laid (now (image .entry)) e ⌝ }
 {
     let at = offset_of(image, e);
-    let sized = may_have(e, size_of(image, e));
+    let sized = may_have(image[5], e, size_of(image, e));
     (at == place) & sized & (stop_of(image, e) <= image.len())
 }
 

@@ -9,13 +9,13 @@ use lib.Dec.{T}
 use lib.ListN.{length, getD, take}
 use lib.Seq.{getD-append-add, getD-take}
 use borrow.Author.Tests.{ne-eqb}
-use Rattle.algorithm.specs.Table.{Table, server, primary, mark, broken, fresh, held}
-use Rattle.algorithm.specs.Bytes.{actionOf}
+use Rattle.algorithm.specs.Table.{Table, server, primary, entryAt, bakeAt, mark, broken, fresh, held}
+use Rattle.algorithm.specs.Bytes.{Action, actionOf}
 use Rattle.words.specs.Words.{valueOf, eight}
 use Rattle.words.specs.Refusal.{Answer, unlessRefused}
-use Rattle.algorithm.specs.Run.{replyBytes, repliesBytes, answered, step, pieces, play, wins, wonBy, wonAlong, Rising}
-use Rattle.algorithm.proofs.Runs.{play-sound, play-rule, play-floor, play-append, won-append, pieces-append}
-use Rattle.algorithm.proofs.Demands.{won-rise, not-given-24, next-not-24, primary-complete}
+use Rattle.algorithm.specs.Run.{replyBytes, repliesBytes, answered, step, pieces, play, broughtBy, along, wonAlong, Rising, bakesGiven}
+use Rattle.algorithm.proofs.Runs.{play-sound, play-rule, play-floor, play-append, along-append, pieces-append}
+use Rattle.algorithm.proofs.Demands.{won-rise, not-given-24, next-not-24, primary-complete, logs-agree}
 use Rattle.algorithm.proofs.Replies.{step-carried, carried-eight, length-bytes, bytes-append, number-at}
 use Rattle.table.specs.Layout.{stored, tableIn, whole}
 use Rattle.table.proofs.StoredLaws.{stored-table}
@@ -122,10 +122,17 @@ module _ {n m R F : ℕ} {plan : List (List ℕ)} {replies b : List ℕ} (h : Re
   pub reached-rise : Rising 0 (wonAlong (fresh n m R F) plan)
   reached-rise = won-rise n m R F plan
 
-  -- every primary holds, at its position, each entry marked with a term not above its own
+  -- every primary holds, at its position, each entry marked with a term not above its own: that term, and the bake of the one write that was taken
+  -- in that term at that position
   pub reached-complete : (i q : ℕ) → T (primary (server (tableIn b) i)) → 0 < mark (tableIn b) q → mark (tableIn b) q ≤ server (tableIn b) i .term
       → T (held (server (tableIn b) i .log) q (mark (tableIn b) q))
+      × (bakesGiven (fresh n m R F) plan (mark (tableIn b) q) q ≡ bakeAt (server (tableIn b) i .log) q ∷ [])
   reached-complete = rw reached-table (primary-complete n m R F plan)
+
+  -- two logs that have the same term at a position agree up to there, in terms and bakes
+  pub reached-agree : (i j q u : ℕ) → T (held (server (tableIn b) i .log) q u) → T (held (server (tableIn b) j .log) q u)
+      → (r : ℕ) → r ≤ q → entryAt (server (tableIn b) i .log) r ≡ entryAt (server (tableIn b) j .log) r
+  reached-agree = rw reached-table (logs-agree n m R F plan)
 
   -- no reply has the number 24, which is the first of its bytes
   pub reached-24 : (j : ℕ) → getD replies (8 * j) 0 ≢ 24
@@ -146,10 +153,11 @@ module _ {n m R F : ℕ} {plan : List (List ℕ)} {replies b : List ℕ} (h : Re
     pub step-24 : r ≢ 24
     step-24 e = next-not-24 n m R F plan a (rw (reached-whole h, reached-table h) at (sym (s .number) ∙ e))
 
-    -- the term that it wins, told by the slice and the reply
-    pub step-won : wonAlong (fresh n m R F) (plan ++ (a ∷ [])) ≡ wonAlong (fresh n m R F) plan ++ unlessRefused r (wins (tableIn b) (actionOf a)) []
-    unfolding wonAlong wonBy
-    step-won = won-append (fresh n m R F) plan (a ∷ []) ∙ rw (← reached-table h, s .number, reached-whole h, append-nil)
+    -- what it brings about, the term that it wins or what it writes, told by the slice and the reply
+    pub step-brings : {A : Type 0} (f : Table → Action → List A)
+        → along f (fresh n m R F) (plan ++ (a ∷ [])) ≡ along f (fresh n m R F) plan ++ unlessRefused r (f (tableIn b) (actionOf a)) []
+    unfolding along broughtBy
+    step-brings f = along-append f (fresh n m R F) plan (a ∷ []) ∙ rw (← reached-table h, s .number, reached-whole h, append-nil)
 
   module _ {p s b' s' : List ℕ} {k : ℕ} (a : RunAnswer b p s k b' s') where
     pub then-run : Reached n m R F (plan ++ pieces k p) (replies ++ take (8 * k) s') b'
@@ -163,9 +171,10 @@ module _ {n m R F : ℕ} {plan : List (List ℕ)} {replies b : List ℕ} (h : Re
         reached-24 then-run (length before + j)
         (rw place (getD-append-add replies (take (8 * k) s') (8 * j) 0 ∙ getD-take (8 * k) s' (8 * j) 0 (omega arith) ∙ e))
 
-    -- the terms that it wins are those of the algorithm's run on the table in the slice
-    pub run-won : wonAlong (fresh n m R F) (plan ++ pieces k p) ≡ wonAlong (fresh n m R F) plan ++ wonAlong (tableIn b) (pieces k p)
-    run-won = won-append (fresh n m R F) plan (pieces k p) ∙ rw (← reached-table h)
+    -- what it brings about is what the algorithm's run on the table in the slice does
+    pub run-brings : {A : Type 0} (f : Table → Action → List A)
+        → along f (fresh n m R F) (plan ++ pieces k p) ≡ along f (fresh n m R F) plan ++ along f (tableIn b) (pieces k p)
+    run-brings f = along-append f (fresh n m R F) plan (pieces k p) ∙ rw (← reached-table h)
 
 -- ---- an evening and a morning
 

@@ -1,6 +1,5 @@
 -- Kind by kind: the table after a taken action shows the state that the paper's action assigns. Assumes nothing.
 use Prim.Native.Nat.{ℕ, _+_, _-_, _≤_, _<_}
-use mathlib.Core.Bool.{cond}
 use mathlib.Core.List.{List, [], _∷_, _++_}
 use mathlib.Core.Logic.{_≢_, _⊎_, inl, inr, ⊎-elim, _↔_, Iff·rfl}
 use mathlib.Core.Path.{_≡_, refl, sym, ap, _∙_, subst}
@@ -13,7 +12,7 @@ use Rattle.words.proofs.Choice.{put-elim, put-same, cond-elim}
 use Rattle.words.specs.Lists.{put}
 use Rattle.words.proofs.Lists.{nth-replace, nth-replaced}
 use Rattle.members.specs.Members.{Member, member, within}
-use Rattle.algorithm.specs.Table.{Config, Entry, Log, Server, Table, count, absent, server, mark, withServer, withConfig, withLog, entry, entryAt}
+use Rattle.algorithm.specs.Table.{Config, Entry, Log, Server, Table, count, absent, server, mark, withServer, withConfig, withLog, entryOf, entryAt}
 use Rattle.algorithm.specs.Actions.{steppedDown, voted, winner, electAfter, nextConfig, reconfigureAfter, sendAfter, spreadAfter, writeAfter, fetchAfter, rollBackAfter, commitAfter}
 use Rattle.algorithm.specs.Run.{known}
 use Rattle.algorithm.proofs.Seen.{known-range, count-voted, server-voted}
@@ -70,8 +69,8 @@ module _ (t : Table) (i j : ℕ) (known-i : Passes (known (count t) i)) where
       let x : Server = withLog l a in
       (sets t i x known-i (λ s. logShown (s .log)) r e, same-roles t i x known-i refl refl, same-configs t i x known-i refl, λ p u. Iff·rfl)
 
-  pub write-after : Assigns (shown t) (ClientRequest i) (shown (writeAfter t i))
-  write-after = with-log (a .log ++ (entry (a .term) ∷ [])) _ (plus-shown (a .log) (entry (a .term)))
+  pub write-after : (B : ℕ) → Assigns (shown t) (ClientRequest i) (shown (writeAfter t i B))
+  write-after B = with-log (a .log ++ (entryOf (a .term) B ∷ [])) _ (plus-shown (a .log) (entryOf (a .term) B))
 
   pub fetch-after : Assigns (shown t) (GetEntries i j) (shown (fetchAfter t i j))
   fetch-after =

@@ -14,7 +14,7 @@ use Rattle.words.proofs.Tests.{Passes, Fails, both, both-refuted, at-most}
 use Rattle.words.proofs.Lists.{length-replace}
 use Rattle.words.proofs.RefusalLaws.{NoneHold, none-hold, first-later, one-more, none-before}
 use Rattle.algorithm.specs.Table.{Table, count, server, mark, broken}
-use Rattle.algorithm.specs.Bytes.{kinds, kindOf, iOf, jOf, setOf, actionOf}
+use Rattle.algorithm.specs.Bytes.{kinds, kindOf, iOf, jOf, setOf, bakeOf, actionOf}
 use Rattle.algorithm.specs.Actions.{voted, winner, fetchRefusals, fetchAfter, entryRefusals, markedOtherwise, fetches}
 use Rattle.algorithm.specs.Run.{known, formRefusals, commonRefusals, ownRefusals, refusals, after, step}
 use Rattle.algorithm.proofs.Refused.{Fits, common-fit, Taken, taken}
@@ -44,19 +44,19 @@ Leads t a z = OfPaper (λ b. UpTo (timesAsked a) b t z) a
 Known : house.Action → Type 0
 Known a = OfPaper (λ _. Unit {0}) a
 
-kind-known : (k i j m : ℕ) → 1 ≤ k → k ≤ 9 → Known (getD (kinds i j m) k house.unknown)
+kind-known : (k i j m B : ℕ) → 1 ≤ k → k ≤ 9 → Known (getD (kinds i j m B) k house.unknown)
 unfolding Known
-kind-known zero i j m a b = absurd (omega arith)
-kind-known (suc zero) i j m a b = tt
-kind-known (suc (suc zero)) i j m a b = tt
-kind-known (suc (suc (suc zero))) i j m a b = tt
-kind-known (suc (suc (suc (suc zero)))) i j m a b = tt
-kind-known (suc (suc (suc (suc (suc zero))))) i j m a b = tt
-kind-known (suc (suc (suc (suc (suc (suc zero)))))) i j m a b = tt
-kind-known (suc (suc (suc (suc (suc (suc (suc zero))))))) i j m a b = tt
-kind-known (suc (suc (suc (suc (suc (suc (suc (suc zero)))))))) i j m a b = tt
-kind-known (suc (suc (suc (suc (suc (suc (suc (suc (suc zero))))))))) i j m a b = tt
-kind-known (suc (suc (suc (suc (suc (suc (suc (suc (suc (suc k)))))))))) i j m a b = absurd (omega arith)
+kind-known zero i j m B a b = absurd (omega arith)
+kind-known (suc zero) i j m B a b = tt
+kind-known (suc (suc zero)) i j m B a b = tt
+kind-known (suc (suc (suc zero))) i j m B a b = tt
+kind-known (suc (suc (suc (suc zero)))) i j m B a b = tt
+kind-known (suc (suc (suc (suc (suc zero))))) i j m B a b = tt
+kind-known (suc (suc (suc (suc (suc (suc zero)))))) i j m B a b = tt
+kind-known (suc (suc (suc (suc (suc (suc (suc zero))))))) i j m B a b = tt
+kind-known (suc (suc (suc (suc (suc (suc (suc (suc zero)))))))) i j m B a b = tt
+kind-known (suc (suc (suc (suc (suc (suc (suc (suc (suc zero))))))))) i j m B a b = tt
+kind-known (suc (suc (suc (suc (suc (suc (suc (suc (suc (suc k)))))))))) i j m B a b = absurd (omega arith)
 
 -- ---- 6 to 24, all kinds
 
@@ -67,7 +67,7 @@ judged t s (house.elect i q) (i-fits, q-fits) k = elect-kind t s i q i-fits q-fi
 judged t s (house.reconfigure i m) (i-fits, m-fits) k = reconfigure-kind t s i m i-fits m-fits
 judged t s (house.send i j) fit k = send-kind t s i j
 judged t s (house.spread i j) fit k = spread-kind t s i j
-judged t s (house.write i) i-fits k = write-kind t s i i i-fits
+judged t s (house.write i B) (i-fits, _) k = write-kind t s i i i-fits
 judged t s (house.fetch i j) fit k = fetch-kind t s i j
 judged t s (house.rollBack i j) (i-fits, j-fits) k = roll-back-kind t s i j i-fits j-fits
 judged t s (house.commit i q) (i-fits, q-fits) k = commit-kind t s i q i-fits q-fits
@@ -78,7 +78,7 @@ formed : (t : Table) (bs : List ℕ) → Fails (broken t) → NoneHold (formRefu
 formed t bs sound form =
     let (_, range) = both-refuted {a = eqb (length bs) 8} {b = between 1 9 (kindOf bs)} (form 2) in
     let (low, high) = both range in
-    (common-fit t bs (one-more (refuse 1 (broken t)) (formRefusals (count t) bs) sound form) .1, kind-known (kindOf bs) (iOf bs) (jOf bs) (setOf bs) (at-most low) (at-most high))
+    (common-fit t bs (one-more (refuse 1 (broken t)) (formRefusals (count t) bs) sound form) .1, kind-known (kindOf bs) (iOf bs) (jOf bs) (setOf bs) (bakeOf bs) (at-most low) (at-most high))
 
 -- ---- the theorem
 
@@ -143,8 +143,8 @@ led t (house.send i j) k (can, _) =
     one-time (record { requires = can; assigns = send-after t i j (k .fit .1); servers = length-replace (t .servers) j _ })
 led t (house.spread i j) k (can, _) =
     one-time (record { requires = can; assigns = spread-after t i j (k .fit .1); servers = length-replace (t .servers) j _ })
-led t (house.write i) k (can, _) =
-    one-time (record { requires = can; assigns = write-after t i i (k .fit); servers = length-replace (t .servers) i _ })
+led t (house.write i B) k (can, _) =
+    one-time (record { requires = can; assigns = write-after t i i (k .fit .0) B; servers = length-replace (t .servers) i _ })
 led t (house.fetch i j) k (can, _) =
     one-time (record { requires = can; assigns = fetch-after t i j (k .fit .0); servers = length-replace (t .servers) i _ })
 led t (house.rollBack i j) k (can, _) =
@@ -184,7 +184,7 @@ both-of P R (house.elect i q) p r = (_, p, r)
 both-of P R (house.reconfigure i m) p r = (_, p, r)
 both-of P R (house.send i j) p r = (_, p, r)
 both-of P R (house.spread i j) p r = (_, p, r)
-both-of P R (house.write i) p r = (_, p, r)
+both-of P R (house.write i B) p r = (_, p, r)
 both-of P R (house.fetch i j) p r = (_, p, r)
 both-of P R (house.rollBack i j) p r = (_, p, r)
 both-of P R (house.commit i q) p r = (_, p, r)

@@ -16,7 +16,7 @@ use Rattle.words.proofs.RefusalLaws.{NoneHold, one-more}
 use Rattle.members.specs.Members.{within, somePass}
 use Rattle.members.proofs.Said.{All}
 use Rattle.members.proofs.Majorities.{some-passes}
-use Rattle.algorithm.specs.Table.{Entry, entry, Log, Server, primary, secondary, termAt, soundEntry, later, last, prefix, Table, server, mark, held}
+use Rattle.algorithm.specs.Table.{Entry, noEntry, Log, Server, primary, secondary, termAt, soundEntry, later, last, prefix, Table, server, mark, held}
 use Rattle.algorithm.specs.Actions.{someMarked, holdsMarked}
 use Rattle.algorithm.proofs.Orders.{not-larger}
 use Rattle.algorithm.proofs.Sound.{SoundServer}
@@ -86,7 +86,7 @@ length-shown l = length-map l (λ (e : Entry). e .term)
 pub at-shown : (l : Log) (p : ℕ) → at (logShown l) p ≡ termAt l p
 unfolding nth
 at-shown l zero = refl
-at-shown l (suc k) = List·getD-map (λ (e : Entry). e .term) l k (entry 0)
+at-shown l (suc k) = List·getD-map (λ (e : Entry). e .term) l k noEntry
 
 -- the same last term
 pub last-shown : (l : Log) → at (logShown l) (length (logShown l)) ≡ last l
@@ -117,7 +117,8 @@ pub ends : (l : Log) → Passes (every soundEntry l) → Ends l
 unfolding nth
 ends [] h = inl (refl, refl)
 ends (x ∷ l) h =
-    let (some, _) = both (every-nth soundEntry (x ∷ l) (length (x ∷ l)) (entry 0) h (omega arith) (omega arith)) in
+    let (range, _) = both (every-nth soundEntry (x ∷ l) (length (x ∷ l)) noEntry h (omega arith) (omega arith)) in
+    let (some, _) = both range in
     inr (ap (λ (m : ℕ). m + 1) (last-shown (x ∷ l)), at-most some)
 
 -- so the paper's order of last terms is ours

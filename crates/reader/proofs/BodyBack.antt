@@ -1,25 +1,24 @@
 -- The bodies of a table that breaks no rule are read back as its marks and its servers. Assumes nothing.
-use Prim.Native.Nat.{ℕ, zero, suc, _+_, _*_, _/_, _%_, _≤_, _<_}
+use Prim.Native.Nat.{ℕ, zero, suc, _+_, _/_, _%_, _≤_, _<_}
 use native.Mathlib.Omega.{arith}
 use mathlib.Core.Path.{_≡_, refl, ap, sym, subst, _∙_}
 use mathlib.Core.Bool.{Bool, _||_}
 use mathlib.Core.List.{List, [], _∷_}
 use lib.Dec.{leb, eqb, le→leb}
-use lib.ListN.{length, length-map}
+use lib.ListN.{length}
 use borrow.Author.Tests.{ne-eqb}
 use Rattle.words.proofs.Tests.{Passes, together}
 use Rattle.words.specs.Lists.{nth, every, between}
-use Rattle.algorithm.specs.Table.{Entry, entries, Server, ceiling, positions, soundServer, kept, trimmed}
+use Rattle.algorithm.specs.Table.{Server, ceiling, positions, soundServer, kept, trimmed}
 use Rattle.words.proofs.Lists.{every-cons, cons-every}
 use Rattle.algorithm.proofs.Sound.{SoundServer, server-sound}
 use Rattle.words.specs.Words.{wordOf, words}
-use Rattle.words.proofs.WordLaws.{length-bytes, words-bytes, words-between}
-use Rattle.table.specs.Layout.{padded, terms}
-use Rattle.table.proofs.LayoutLaws.{entries-terms}
-use Rattle.table.proofs.SoundLaws.{words-log}
-use Rattle.image.specs.Contents.{figureBytes, marksIn, serverIn, soundMarksBody, soundServerBody}
-use Rattle.image.specs.Image.{marksBody, serverBody}
+use Rattle.words.proofs.WordLaws.{words-bytes, words-between}
+use Rattle.table.specs.Layout.{padded}
+use Rattle.image.specs.Contents.{marksIn, serverIn, soundMarksBody, soundServerBody}
+use Rattle.image.specs.Image.{unbaked, marksBody, logWords, serverBody}
 use Rattle.image.proofs.ImageLaws.{half-back}
+use Rattle.image.proofs.LogLaws.{log-small, log-back}
 
 -- ---- marks without the 0 at their end
 
@@ -87,25 +86,22 @@ module _ (ms : List ℕ) (low : Passes (every (between 0 ceiling) ms)) where
 -- ---- a server
 
 -- the numbers of four bytes in a server's body
-abbrev numbers : Server → List ℕ
-numbers s = s .term ∷ s .config .version ∷ s .config .term ∷ terms (s .log)
+abbrev numbers : ℕ → Server → List ℕ
+numbers w s = s .term ∷ s .config .version ∷ s .config .term ∷ logWords w (s .log)
 
-pub length-body : (s : Server) → length (serverBody s) ≡ figureBytes + 4 * length (s .log)
-length-body s = omega (arith, length-bytes (numbers s), length-map (s .log) (λ (e : Entry). e .term))
-
-module _ (n : ℕ) (s : Server) (h : Passes (soundServer n s)) (small : s .config .set < 65536) where
+module _ (n w : ℕ) (s : Server) (h : Passes (soundServer n s)) (small : s .config .set < 65536) (bare : w ≡ 0 → Passes (unbaked s)) where
   rules : SoundServer n s
   rules = server-sound h
 
-  words-server : words (serverBody s)
-      ≡ wordOf (s .role) 0 (s .config .set % 256) (s .config .set / 256 % 256) ∷ numbers s
+  words-server : words (serverBody w s)
+      ≡ wordOf (s .role) 0 (s .config .set % 256) (s .config .set / 256 % 256) ∷ numbers w s
   unfolding words
   words-server =
       ap (λ (l : List ℕ). wordOf (s .role) 0 (s .config .set % 256) (s .config .set / 256 % 256) ∷ l)
-      (words-bytes (numbers s) (omega (arith, rules .term), (omega (arith, rules .config .version), (omega (arith, rules .config .term), words-log (s .log) (rules .entries)))))
+      (words-bytes (numbers w s) (omega (arith, rules .term), (omega (arith, rules .config .version), (omega (arith, rules .config .term), log-small w (s .log) (rules .entries)))))
 
-  pub server-back : serverIn (serverBody s) ≡ s
-  server-back = rw (words-server, half-back (s .config .set) small, entries-terms (s .log))
+  pub server-back : serverIn w (serverBody w s) ≡ s
+  server-back = rw (words-server, half-back (s .config .set) small, log-back w (s .log) bare)
 
-  pub server-pass : Passes (soundServerBody n (serverBody s))
+  pub server-pass : Passes (soundServerBody n w (serverBody w s))
   server-pass = together {a = eqb 0 0} (record { yes = tt }) (subst (λ (x : Server). Passes (soundServer n x)) (sym server-back) h)

@@ -1,13 +1,13 @@
 -- A slice that is filled body by body holds the table read. Assumes nothing.
-use Prim.Native.Nat.{ℕ, zero, suc, _+_, _-_, _/_, _≤_, _<_}
+use Prim.Native.Nat.{ℕ, zero, suc, _+_, _-_, _*_, _/_, _≤_, _<_}
 use native.Mathlib.Numerals.{add-one}
 use native.Mathlib.Omega.{arith}
 use mathlib.Core.Path.{_≡_, refl, ap, sym, subst, _∙_}
 use mathlib.Core.List.{List, [], _∷_, _++_, append-nil}
-use lib.ListN.{length, getD, set, take, drop, replicate, length-append, length-map, length-replicate}
-use lib.Seq.{take-all, length-take-le, getD-drop, set-at, getD-at, append-snoc}
+use lib.ListN.{length, getD, set, take, replicate, length-append, length-replicate}
+use lib.Seq.{take-all, take-suc, length-take-le, set-at, getD-at, append-snoc}
 use Rattle.words.specs.Lists.{nth, replace}
-use Rattle.algorithm.specs.Table.{Config, entry, Log, entries, Server, Table, absent, server, withMarks, withServer, changed, withMark, withRole, withTerm, withConfig, withLog, withEntry, positions, withServers, configOf}
+use Rattle.algorithm.specs.Table.{Config, entryOf, noEntry, Log, Server, Table, absent, server, termAt, bakeAt, withMarks, withServer, changed, withMark, withRole, withTerm, withConfig, withLog, withEntry, positions, withServers, configOf}
 use Rattle.words.specs.Words.{words}
 use Rattle.words.proofs.WordLaws.{length-words}
 use Rattle.table.specs.Slice.{figuresOf, figured, Holds, Held, Became, Within, blank}
@@ -15,8 +15,8 @@ use Rattle.table.specs.declared.figures.Figures.{Figures}
 use Rattle.table.specs.Layout.{padded, tableIn}
 use Rattle.words.proofs.Lists.{replace-nth, nth-replaced}
 use Rattle.table.proofs.HeldLaws.{its-table, held, again}
-use Rattle.image.specs.Contents.{countIn, ruleIn, floorIn, body, marksIn, serverIn, Names, Named, Sized}
-use Rattle.image.proofs.BodyLaws.{length-rest}
+use Rattle.image.specs.Contents.{countIn, wideIn, ruleIn, floorIn, body, marksIn, serverIn, Names, Named, Sized}
+use Rattle.image.proofs.LogLaws.{log-short}
 use Rattle.reader.specs.Reader.{serversTo, readTable, unread}
 
 -- one change after another
@@ -31,47 +31,41 @@ stays {b} h e = record { holds = subst (λ (x : Table). Holds b x) e h; held = h
 -- ---- a log
 
 -- the first k entries of the body d are put
-pub record Logged (b₀ b : List ℕ) (s : ℕ) (d : List ℕ) (k : ℕ) : Type 0 where
-  pub became : Became b₀ b (changed (tableIn b₀) s (withLog (entries (take k (drop 4 (words d))))))
+pub record Logged (b₀ b : List ℕ) (s w : ℕ) (d : List ℕ) (k : ℕ) : Type 0 where
+  pub became : Became b₀ b (changed (tableIn b₀) s (withLog (take k (serverIn w d .log))))
 
-entries-more : (l : List ℕ) (k : ℕ) → k < length l → entries (take k l) ++ (entry (getD l k 0) ∷ []) ≡ entries (take (suc k) l)
-entries-more [] k h = absurd (omega arith)
-entries-more (x ∷ l) zero h = refl
-entries-more (x ∷ l) (suc k) h = ap (λ (m : Log). entry x ∷ m) (entries-more l k (omega arith))
-
-module _ (b₀ b d : List ℕ) (s : ℕ) where
-  pub log-none : Held b → server (tableIn b) s .log ≡ [] → Logged b b s d 0
+module _ (b₀ b d : List ℕ) (s w : ℕ) where
+  pub log-none : Held b → server (tableIn b) s .log ≡ [] → Logged b b s w d 0
   log-none h e =
       let t = tableIn b in
       let empty : t .servers ≡ replace (t .servers) s (withLog [] (server t s)) =
       sym (replace-nth (t .servers) s absent) ∙ ap (λ (l : Log). replace (t .servers) s (withLog l (server t s))) e in
       record { became = stays h (λ i. withServers (empty i) t) }
 
-  module _ (k : ℕ) (g : Logged b₀ b s d k) (w : Within b₀ s) where
-    pub log-room : k < length d / 4 - 4 → Sized 1 d → length (server (tableIn b) s .log) < positions
-    log-room h z =
-        let l = drop 4 (words d) in
+  module _ (n k : ℕ) (many : n ≡ length (serverIn w d .log)) (g : Logged b₀ b s w d k) where
+    pub log-room : Within b₀ s → k < n → Sized w 1 d → length (server (tableIn b) s .log) < positions
+    log-room v h z =
+        let l = serverIn w d .log in
         let t = tableIn b₀ in
-        let here : server (tableIn b) s ≡ withLog (entries (take k l)) (server t s) =
-        ap (λ (x : Table). server x s) (its-table (g .became .holds)) ∙ nth-replaced (t .servers) s _ absent (w .some) (w .known) in
-        let many : length (entries (take k l)) ≡ k = length-map (take k l) _ ∙ length-take-le k l (omega (arith, length-rest d)) in
-        rw here (omega (arith, many, z .most))
+        let here : server (tableIn b) s ≡ withLog (take k l) (server t s) =
+        ap (λ (x : Table). server x s) (its-table (g .became .holds)) ∙ nth-replaced (t .servers) s _ absent (v .some) (v .known) in
+        rw here (omega (arith, length-take-le k l (omega arith), log-short d w z))
 
-    pub log-more : (b' : List ℕ) (v : ℕ) → k < length d / 4 - 4 → v ≡ getD (words d) (4 + k) 0
-        → Became b b' (changed (tableIn b) s (withEntry (entry v))) → Logged b₀ b' s d (k + 1)
-    log-more b' v h e c =
-        let l = drop 4 (words d) in
-        let read : v ≡ getD l k 0 = e ∙ sym (getD-drop 4 (words d) k 0) in
-        let longer : entries (take k l) ++ (entry v ∷ []) ≡ entries (take (k + 1) l) =
-        rw (read, add-one) (entries-more l k (omega (arith, length-rest d))) in
+    pub log-more : (b' : List ℕ) (T B : ℕ) → Within b₀ s → k < n → T ≡ termAt (serverIn w d .log) (k + 1) → B ≡ bakeAt (serverIn w d .log) (k + 1)
+        → Became b b' (changed (tableIn b) s (withEntry (entryOf T B))) → Logged b₀ b' s w d (k + 1)
+    unfolding nth
+    log-more b' T B v h et eb c =
+        let l = serverIn w d .log in
+        let read : entryOf T B ≡ getD l k noEntry = λ i. entryOf ((rw add-one at et) i) ((rw add-one at eb) i) in
+        let longer : take k l ++ (entryOf T B ∷ []) ≡ take (k + 1) l = rw (read, add-one) (sym (take-suc l k noEntry (omega arith))) in
         record {
           became =
               subst (λ (m : Log). Became b₀ b' (changed (tableIn b₀) s (withLog m))) longer
-              (again (withLog (entries (take k l))) (withEntry (entry v)) w (g .became) c);
+              (again (withLog (take k l)) (withEntry (entryOf T B)) v (g .became) c);
         }
 
-    pub log-all : length d / 4 - 4 ≤ k → Became b₀ b (changed (tableIn b₀) s (withLog (serverIn d .log)))
-    log-all h = rw (take-all k (drop 4 (words d)) (omega (arith, length-rest d))) at (g .became)
+    pub log-all : n ≤ k → Became b₀ b (changed (tableIn b₀) s (withLog (serverIn w d .log)))
+    log-all h = rw (take-all k (serverIn w d .log) (omega arith)) at (g .became)
 
 -- ---- a server
 
@@ -83,11 +77,11 @@ figures-put b b₁ b₂ b₃ s f w p q u =
     let C : Config = configOf (f .set) (f .version .0) (f .config .0) in
     again (λ x. withTerm (f .term .0) (withRole (f .role) x)) (withConfig C) w (again (withRole (f .role)) (withTerm (f .term .0)) w p q) u
 
-pub server-filled : (b b₁ b₂ d : List ℕ) (s : ℕ) (f : Figures) → Within b s → Became b b₁ (changed (tableIn b) s (withLog (serverIn d .log)))
-    → f ≡ figuresOf (serverIn d) → Became b₁ b₂ (withServer (tableIn b₁) s (figured f (server (tableIn b₁) s .log)))
-    → Became b b₂ (withServer (tableIn b) s (serverIn d))
-server-filled b b₁ b₂ d s f w p e q =
-    rw e at (again (withLog (serverIn d .log)) (λ x. figured f (x .log)) w p q)
+pub server-filled : (b b₁ b₂ d : List ℕ) (s w : ℕ) (f : Figures) → Within b s → Became b b₁ (changed (tableIn b) s (withLog (serverIn w d .log)))
+    → f ≡ figuresOf (serverIn 0 d) → Became b₁ b₂ (withServer (tableIn b₁) s (figured f (server (tableIn b₁) s .log)))
+    → Became b b₂ (withServer (tableIn b) s (serverIn w d))
+server-filled b b₁ b₂ d s w f v p e q =
+    rw e at (again (withLog (serverIn w d .log)) (λ x. figured f (x .log)) v p q)
 
 -- ---- the marks
 
@@ -108,13 +102,13 @@ module _ (b₀ b d : List ℕ) where
   marks-none h e = record { became = stays h (λ i. withMarks (e i) (tableIn b)) }
 
   module _ (k : ℕ) (g : Marking b₀ b d k) where
-    pub marks-more : (b' : List ℕ) (v : ℕ) → k < length d / 4 → Sized 0 d → v ≡ getD (words d) k 0
+    pub marks-more : (b' : List ℕ) (v : ℕ) → k < length d / 4 → length d ≤ 4 * positions → v ≡ getD (words d) k 0
         → Became b b' (withMark (tableIn b) (k + 1) v) → Marking b₀ b' d (k + 1)
     unfolding replace
     marks-more b' v h l e c =
         let P = padded positions (take k (words d)) in
         let longer : replace P (k + 1) v ≡ padded positions (take (k + 1) (words d)) =
-        rw (e, add-one) (padded-more positions (words d) k (omega (arith, l .most)) (omega (arith, length-words d))) in
+        rw (e, add-one) (padded-more positions (words d) k (omega arith) (omega (arith, length-words d))) in
         record {
           became =
               subst (λ (m : List ℕ). Became b₀ b' (withMarks m (tableIn b₀))) longer (onward (λ x. withMark x (k + 1) v) (g .became) c);
@@ -161,14 +155,14 @@ module _ (im b : List ℕ) (n : ℕ) (e : n ≡ countIn im) where
         let left : countIn im - k ≡ suc (countIn im - suc k) = omega arith in
         rw (its-table (g .holds), add-one k, left, getD-at (serversTo k im) absent (replicate (countIn im - suc k) absent) absent k (length-servers k im))
 
-    pub filled-more : (b' d : List ℕ) → k < n → d ≡ body im (k + 1) → Became b b' (withServer (tableIn b) (k + 1) (serverIn d)) → Filled im b' (k + 1)
+    pub filled-more : (b' d : List ℕ) → k < n → d ≡ body im (k + 1) → Became b b' (withServer (tableIn b) (k + 1) (serverIn (wideIn im) d)) → Filled im b' (k + 1)
     unfolding replace serversTo
     filled-more b' d h p c =
-        let s = serverIn (body im (suc k)) in
+        let s = serverIn (wideIn im) (body im (suc k)) in
         let front = serversTo k im in
         let rest = replicate (countIn im - suc k) absent in
         let left : countIn im - k ≡ suc (countIn im - suc k) = omega arith in
-        let next : withServer (partly im k) (k + 1) (serverIn (body im (k + 1))) ≡ partly im (k + 1) =
+        let next : withServer (partly im k) (k + 1) (serverIn (wideIn im) (body im (k + 1))) ≡ partly im (k + 1) =
         rw (add-one k, left, set-at front absent rest s k (length-servers k im), append-snoc front s rest) in
         record { within = omega arith; holds = subst (λ (t : Table). Holds b' t) next (rw (its-table (g .holds), p) at (c .holds)) }
 

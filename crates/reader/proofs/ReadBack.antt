@@ -3,7 +3,7 @@ use Prim.Native.Nat.{ℕ, zero, suc, _+_, _*_, _%_, _≤_, _<_}
 use native.Mathlib.Omega.{arith}
 use mathlib.Core.Path.{_≡_, refl, ap, sym, subst, _∙_}
 use mathlib.Core.Bool.{false, _&&_}
-use mathlib.Core.List.{List, [], _∷_, _++_, map, flatten}
+use mathlib.Core.List.{List, [], _∷_, _++_, flatten}
 use lib.Dec.{leb, eqb}
 use lib.ListN.{length, getD, take, length-append, List·getD-map}
 use lib.Seq.{take-suc, take-length, take-all}
@@ -14,35 +14,36 @@ use Rattle.algorithm.specs.Table.{Server, Table, absent, count, ceiling, mostSe
 use Rattle.words.specs.Lists.{nth, every, between}
 use Rattle.words.proofs.Lists.{every-nth}
 use Rattle.algorithm.proofs.Sound.{SoundTable, table-sound}
-use Rattle.table.specs.Slice.{AllRoomy, Shaped}
+use Rattle.table.specs.Slice.{Shaped}
 use Rattle.words.proofs.WordLaws.{length-bytes}
 use Rattle.table.specs.Layout.{tableBytes}
 use Rattle.table.proofs.SoundLaws.{marks-sound}
 use Rattle.table.proofs.HeldLaws.{roomy-at}
 use Rattle.table.proofs.StoredLaws.{its-shape}
 use Rattle.image.specs.Contents.{firstBody, figureBytes, offset, size, stop, start, mayHave, laid, laidOut, body, marksIn, serverIn, soundMarksBody, soundServerBody, soundAt, soundBodies, countIn}
-use Rattle.image.specs.Image.{marksBody, serverBody, bodies, image}
+use Rattle.image.specs.Image.{unbaked, wide, marksBody, serverBody, bodies, bodyOf, image}
 use Rattle.reader.specs.Reader.{serversTo, readReply, readTable, readEnd}
 use Rattle.words.proofs.BelowLaws.{below-all}
 use Rattle.image.proofs.ImageLaws.{flatten-most, place, joined, many, length-image, image-joined, its-offset, its-size, its-stop, its-body}
-use Rattle.reader.proofs.BodyBack.{length-trimmed, length-body, marks-back, marks-pass, server-back, server-pass}
+use Rattle.image.proofs.LogLaws.{length-body}
+use Rattle.image.proofs.LongestImage.{image-most}
+use Rattle.image.proofs.WideLaws.{wide-most, narrow-unbaked}
+use Rattle.reader.proofs.BodyBack.{length-trimmed, marks-back, marks-pass, server-back, server-pass}
 
--- bodies have room for their places in two bytes
-servers-short : (ss : List Server) → AllRoomy ss → length (flatten (map serverBody ss)) ≤ (figureBytes + 4 * positions) * length ss
-unfolding flatten
-servers-short [] h = omega arith
-servers-short (s ∷ ss) h =
-    omega (arith, length-append (serverBody s) (flatten (map serverBody ss)), length-body s, h .0 .short, servers-short ss (h .1))
+-- a length that a body may have: f bytes, and 0 to 64 items of i bytes
+fitting : (f i v : ℕ) → f ≤ v → v ≤ f + i * positions → v % i ≡ 0 → Passes (between f (f + i * positions) v && eqb (v % i) 0)
+fitting f i v least most items =
+    together {a = between f (f + i * positions) v}
+    (together {a = leb f v} (is-at-most {a = f} {b = v} least) (is-at-most {a = v} {b = f + i * positions} most))
+    (is-equal {a = v % i} {b = 0} items)
 
-length-marks : (ms : List ℕ) → length (marksBody ms) ≤ 4 * length ms
-length-marks ms = omega (arith, length-bytes (trimmed ms), length-trimmed ms)
-
--- f bytes, a multiple of 4, and k numbers of four bytes are a length of a body that has f bytes before its numbers
-fitting : (f j k v : ℕ) → f ≡ 4 * j → v ≡ f + 4 * k → k ≤ positions → Passes (leb f v && leb v (f + 4 * positions) && eqb (v % 4) 0)
-fitting f j k v ef ev l =
-    together {a = leb f v && leb v (f + 4 * positions)}
-    (together {a = leb f v} (is-at-most {a = f} {b = v} (omega arith)) (is-at-most {a = v} {b = f + 4 * positions} (omega arith)))
-    (is-equal {a = v % 4} {b = 0} (omega arith))
+server-fits : (w e : ℕ) (s : Server) → length (s .log) ≤ positions → Passes (mayHave w (suc e) (length (serverBody w s)))
+server-fits zero e s l =
+    let long = length-body 0 s in
+    fitting figureBytes 4 (length (serverBody 0 s)) (omega arith) (omega arith) (omega arith)
+server-fits (suc w) e s l =
+    let long = length-body (suc w) s in
+    fitting figureBytes 8 (length (serverBody (suc w) s)) (omega arith) (omega arith) (omega arith)
 
 module _ (t : Table) (h : broken t ≡ false) where
   rules : SoundTable t
@@ -51,17 +52,9 @@ module _ (t : Table) (h : broken t ≡ false) where
   shape : Shaped t
   shape = its-shape t h
 
+  -- the bodies have room for their places in two bytes
   short : firstBody (count t) + length (flatten (bodies t)) < 65536
-  unfolding flatten
-  short =
-      omega (
-        arith,
-        length-append (marksBody (t .marks)) (flatten (map serverBody (t .servers))),
-        length-marks (t .marks),
-        servers-short (t .servers) (shape .roomy),
-        shape .marked,
-        shape .few,
-      )
+  short = omega (arith, length-image t, image-most t h)
 
   low : Passes (every (between 0 ceiling) (t .marks))
   low = subst Passes (marks-sound (t .marks)) (rules .marks)
@@ -79,17 +72,21 @@ module _ (t : Table) (h : broken t ≡ false) where
     unfolding nth
     short-at = roomy-at (t .servers) (suc s) (shape .roomy) .short
 
-    body-at : getD (bodies t) (suc s) (serverBody absent) ≡ serverBody (getD (t .servers) s absent)
-    body-at = List·getD-map serverBody (t .servers) s absent
+    bare-at : wide t ≡ 0 → Passes (unbaked (getD (t .servers) s absent))
+    unfolding nth
+    bare-at e = every-nth unbaked (t .servers) (suc s) absent (narrow-unbaked t e) (omega arith) (omega arith)
 
-  sized : (e : ℕ) → e ≤ count t → Passes (mayHave e (length (getD (bodies t) e (serverBody absent))))
+    body-at : bodyOf t (suc s) ≡ serverBody (wide t) (getD (t .servers) s absent)
+    body-at = List·getD-map (serverBody (wide t)) (t .servers) s absent
+
+  sized : (e : ℕ) → e ≤ count t → Passes (mayHave (wide t) e (length (bodyOf t e)))
   sized zero l =
-      fitting 0 0 (length (trimmed (t .marks))) (length (marksBody (t .marks))) refl (omega (arith, length-bytes (trimmed (t .marks))))
-      (omega (arith, length-trimmed (t .marks), shape .marked))
+      let long = length-bytes (trimmed (t .marks)) in
+      let most = length-trimmed (t .marks) in
+      fitting 0 4 (length (marksBody (t .marks))) (omega arith) (omega (arith, shape .marked)) (omega arith)
   sized (suc s) l =
       let a = getD (t .servers) s absent in
-      subst (λ (b : List ℕ). Passes (mayHave (suc s) (length b))) (sym (body-at s l))
-      (fitting figureBytes 4 (length (a .log)) (length (serverBody a)) refl (length-body a) (short-at s l))
+      subst (λ (b : List ℕ). Passes (mayHave (wide t) (suc s) (length b))) (sym (body-at s l)) (server-fits (wide t) s a (short-at s l))
 
   module _ (rest : List ℕ) where
     abbrev im : List ℕ
@@ -108,15 +105,15 @@ module _ (t : Table) (h : broken t ≡ false) where
     laid-at : (e : ℕ) → e < count t + 1 → Passes (laid im e)
     laid-at e k =
         let l : e ≤ count t = omega arith in
-        together {a = eqb (offset im e) (start im e) && mayHave e (size im e)}
+        together {a = eqb (offset im e) (start im e) && mayHave (wide t) e (size im e)}
         (together {a = eqb (offset im e) (start im e)} (is-equal (its-offset t short rest e l ∙ begins e l))
-        (subst (λ (v : ℕ). Passes (mayHave e v)) (sym (its-size t short rest e l)) (sized e l)))
+        (subst (λ (v : ℕ). Passes (mayHave (wide t) e v)) (sym (its-size t short rest e l)) (sized e l)))
         (is-at-most {a = stop im e} {b = length im}
         (omega (
           arith,
           its-offset t short rest e l,
           its-size t short rest e l,
-          flatten-most (serverBody absent) (bodies t) e (omega (arith, many t)),
+          flatten-most (serverBody (wide t) absent) (bodies t) e (omega (arith, many t)),
           length-image t,
           long,
         )))
@@ -129,8 +126,8 @@ module _ (t : Table) (h : broken t ≡ false) where
     sound-body zero k = subst (λ (b : List ℕ). Passes (soundMarksBody b)) (sym (its-body t short rest 0 (omega arith))) (marks-pass (t .marks) low)
     sound-body (suc s) k =
         let l : suc s ≤ count t = omega arith in
-        subst (λ (b : List ℕ). Passes (soundServerBody (count t) b)) (sym (its-body t short rest (suc s) l ∙ body-at s l))
-        (server-pass (count t) (getD (t .servers) s absent) (sound-at s l) (small-at s l))
+        subst (λ (b : List ℕ). Passes (soundServerBody (count t) (wide t) b)) (sym (its-body t short rest (suc s) l ∙ body-at s l))
+        (server-pass (count t) (wide t) (getD (t .servers) s absent) (sound-at s l) (small-at s l) (bare-at s l))
 
     all-sound : Passes (soundBodies im)
     unfolding soundBodies
@@ -143,6 +140,7 @@ module _ (t : Table) (h : broken t ≡ false) where
         rw (
           eq-eqb (length slice) tableBytes e,
           le-ltb (length im) 8 (omega (arith, long, length-image t)),
+          le-leb (wide t) 1 (wide-most t),
           le-leb (t .rule) 1 (rules .rule),
           le-leb (t .floor) mostServers (rules .floor),
           is-true (soundCount (countIn im)) (some .yes),
@@ -157,8 +155,9 @@ module _ (t : Table) (h : broken t ≡ false) where
     servers-to zero l = refl
     servers-to (suc k) l =
         let a = getD (t .servers) k absent in
-        let read : serverIn (body im (suc k)) ≡ a =
-        ap serverIn (its-body t short rest (suc k) l ∙ body-at k l) ∙ server-back (count t) a (sound-at k l) (small-at k l) in
+        let read : serverIn (wide t) (body im (suc k)) ≡ a =
+        ap (serverIn (wide t)) (its-body t short rest (suc k) l ∙ body-at k l)
+        ∙ server-back (count t) (wide t) a (sound-at k l) (small-at k l) (bare-at k l) in
         rw (servers-to k (omega arith), read) (sym (take-suc (t .servers) k absent l))
 
     table : readTable im ≡ t

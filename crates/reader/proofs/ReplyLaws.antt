@@ -1,22 +1,22 @@
 -- The reply by the tests that lead to it, and what an image that is read fulfils. Assumes nothing.
-use Prim.Native.Nat.{ℕ, _+_, _%_, _≤_, _<_}
+use Prim.Native.Nat.{ℕ, _+_, _*_, _%_, _≤_, _<_}
 use native.Mathlib.Omega.{arith}
 use mathlib.Core.Path.{_≡_, sym, _∙_}
-use mathlib.Core.Bool.{Bool, true, false, not}
+use mathlib.Core.Bool.{Bool, true, false, not, _&&_}
 use mathlib.Core.List.{List}
-use lib.Dec.{eqb}
+use lib.Dec.{leb, eqb}
 use lib.ListN.{length, getD}
 use borrow.Author.Tests.{lt-ltb, le-ltb, eq-eqb, ne-eqb, not-false}
 use Rattle.words.proofs.Tests.{Passes, both, refuted, equal, at-most}
-use Rattle.words.specs.Lists.{every}
-use Rattle.algorithm.specs.Table.{mostServers, soundCount}
+use Rattle.words.specs.Lists.{every, between}
+use Rattle.algorithm.specs.Table.{positions, mostServers, soundCount}
 use Rattle.words.specs.Refusal.{first}
 use Rattle.words.proofs.RefusalLaws.{none-hold}
 use Rattle.table.specs.Layout.{tableBytes, stored}
 use Rattle.table.specs.Slice.{Holds}
 use Rattle.table.proofs.StoredLaws.{held-stored}
 use Rattle.image.specs.Contents as Contents
-use Rattle.image.specs.Contents.{countIn, offset, size, stop, firstBody, start, laid, laidOut, soundBodies, Names, Named}
+use Rattle.image.specs.Contents.{countIn, wideIn, offset, size, stop, firstBody, start, fixed, itemBytes, mayHave, laid, laidOut, soundBodies, Names, Named}
 use Rattle.reader.specs.Reader.{readRefusals, readReply, readTable, readEnd, readBytes, endAfter}
 use Rattle.words.proofs.BelowLaws.{all-below}
 
@@ -61,18 +61,20 @@ module _ (im slice : List ℕ) where
 -- what an entry says that is as it has to be
 pub record Extent (im : List ℕ) (e : ℕ) : Type 0 where
   pub place : offset im e ≡ start im e
-  pub four : size im e % 4 ≡ 0
+  pub items : size im e % itemBytes (wideIn im) e ≡ 0
   pub names : Names im e
 
 extent : (im : List ℕ) (e : ℕ) → firstBody e ≤ length im → Passes (laid im e) → Extent im e
 extent im e room h =
-    let (front, within) = both h in
-    let (place, sized) = both front in
-    let (range, four) = both sized in
-    let (least, most) = both range in
+    let w = wideIn im in
+    let v = size im e in
+    let (front, within) = both {a = eqb (offset im e) (start im e) && mayHave w e v} h in
+    let (place, sized) = both {a = eqb (offset im e) (start im e)} front in
+    let (range, items) = both {a = between (fixed e) (fixed e + itemBytes w e * positions) v} sized in
+    let (least, most) = both {a = leb (fixed e) v} range in
     record {
       place = equal place;
-      four = equal four;
+      items = equal items;
       names = record { there = room; within = at-most within; least = at-most least; most = at-most most };
     }
 

@@ -14,7 +14,7 @@ use Rattle.algorithm.proofs.Sound.{SoundTable}
 use Rattle.words.specs.Words.{words}
 use Rattle.table.specs.Layout.{padded}
 use Rattle.table.proofs.LayoutLaws.{length-padded}
-use Rattle.image.specs.Contents.{lettered, opened, countIn, ruleIn, floorIn, body, serverIn, soundAt, soundBodies}
+use Rattle.image.specs.Contents.{lettered, opened, countIn, wideIn, ruleIn, floorIn, body, serverIn, soundAt, soundBodies}
 use Rattle.reader.specs.Reader.{serversTo, readReply, readTable}
 use Rattle.words.proofs.BelowLaws.{all-below}
 use Rattle.reader.proofs.FillLaws.{length-servers}
@@ -22,8 +22,8 @@ use Rattle.reader.proofs.ReplyLaws.{readable}
 
 opened-figures : (im : List ℕ) → Passes (opened im) → (ruleIn im ≤ 1) × (floorIn im ≤ mostServers)
 opened-figures im h =
-    let (front, floor) = both {a = lettered im && soundRule (ruleIn im)} h in
-    (at-most (both {a = lettered im} front .1), at-most floor)
+    let (front, floor) = both {a = lettered im && leb (wideIn im) 1 && soundRule (ruleIn im)} h in
+    (at-most (both {a = lettered im && leb (wideIn im) 1} front .1), at-most floor)
 
 -- the 0 beyond the marks keep the rules too
 padded-sound : (k : ℕ) (l : List ℕ) → Passes (every (between 0 ceiling) l) → Passes (every (λ m. leb m ceiling) (padded k l))
@@ -39,7 +39,7 @@ module _ (im : List ℕ) (h : (e : ℕ) → e < countIn im + 1 → Passes (sound
   unfolding serversTo every
   servers-sound zero l = record { yes = tt }
   servers-sound (suc k) l =
-      every-plus (soundServer (countIn im)) (serversTo k im) (serverIn (body im (suc k))) (servers-sound k (omega arith))
+      every-plus (soundServer (countIn im)) (serversTo k im) (serverIn (wideIn im) (body im (suc k))) (servers-sound k (omega arith))
       (both {a = eqb (getD (body im (suc k)) 1 0) 0} (h (suc k) (omega arith)) .1)
 
 pub read-sound : (im slice : List ℕ) → readReply im slice ≡ 0 → SoundTable (readTable im)

@@ -9,7 +9,7 @@ use Rattle.words.specs.Refusal.{Refusal, refuse, first, unlessRefused}
 use Rattle.algorithm.specs.Table.{Server, Table, withMarks, soundCount}
 use Rattle.table.specs.Layout.{tableBytes, stored}
 use Rattle.table.specs.Slice.{blank}
-use Rattle.image.specs.Contents.{opened, countIn, ruleIn, floorIn, stop, laidOut, body, marksIn, serverIn, soundBodies}
+use Rattle.image.specs.Contents.{opened, countIn, wideIn, ruleIn, floorIn, stop, laidOut, body, marksIn, serverIn, soundBodies}
 
 -- the refusals for an image and the slice that a table is to be read into
 abbrev pub readRefusals : List ℕ → List ℕ → List Refusal
@@ -29,7 +29,7 @@ readReply im slice = first (readRefusals im slice)
 -- the first k servers
 unfoldable pub serversTo : ℕ → List ℕ → List Server
 serversTo zero im = []
-serversTo (suc k) im = serversTo k im ++ (serverIn (body im (suc k)) ∷ [])
+serversTo (suc k) im = serversTo k im ++ (serverIn (wideIn im) (body im (suc k)) ∷ [])
 
 -- the table that is read, where nothing is refused
 abbrev pub readTable : List ℕ → Table

@@ -1,7 +1,7 @@
 // A slice filled with the table of an image that is judged already. Who reads a body is lent that body alone.
 ghost use mathlib.Core.Path.{_≡_};
 ghost use mathlib.Core.List.{[]};
-ghost use Prim.Native.Nat.{_≤_, _<_};
+ghost use Prim.Native.Nat.{_*_, _≤_, _<_};
 ghost use lib.ListN.{length, replicate};
 ghost use Rattle.algorithm.specs.Table.{server, withMarks, withServer, changed, withLog, positions, mostServers};
 ghost use Rattle.table.specs.Slice.{figured, Holds, Held, Became, Within};
@@ -10,8 +10,11 @@ ghost use Rattle.image.specs.Contents.{countIn, marksIn, serverIn, Named, Sized
 ghost use Rattle.reader.specs.Reader.{readTable, unread};
 use algorithm::Position;
 use algorithm::Term;
+use image::bodies::bake_in;
 use image::bodies::body_of;
+use image::bodies::entries_in;
 use image::bodies::figures_of;
+use image::bodies::term_in;
 use image::contents::count_of;
 use table::figures::Figures;
 use table::rows::push;
@@ -23,17 +26,17 @@ use whole::fresh::fill_blank;
 use words::word;
 
 // The log of a body for server s, which has none yet.
-fn put_log(t: &mut [u8], s: usize, b: &[u8])
+fn put_log(t: &mut [u8], s: usize, b: &[u8], width: u8)
     requires { ⌜ Held (now t) ⌝ }
     requires { ⌜ Within (now t) s ⌝ }
     requires { ⌜ server (tableIn (now t)) s .log ≡ [] ⌝ }
-    requires { ⌜ Sized 1 (now b) ⌝ }
-    ensures { λ _. ⌜ Became (now (t .entry)) (now (t .exit)) (changed (tableIn (now (t .entry))) s (withLog (serverIn (now (b .entry)) .log))) ⌝ }
+    requires { ⌜ Sized width 1 (now b) ⌝ }
+    ensures { λ _. ⌜ Became (now (t .entry)) (now (t .exit)) (changed (tableIn (now (t .entry))) s (withLog (serverIn width (now (b .entry)) .log))) ⌝ }
 {
-    let n = b.len() / 4 - 4;
+    let n = entries_in(b, width);
     let mut k: usize = 0;
     while k < n {
-        push(t, s, Term(word(b, 4 + k)));
+        push(t, s, term_in(b, width, k), bake_in(b, width, k));
         k += 1;
     }
 }
@@ -49,15 +52,15 @@ fn put_figures(t: &mut [u8], s: usize, f: Figures)
     put_config(t, s, f.set as u16, f.version, f.config);
 }
 
-fn put_server(t: &mut [u8], s: usize, b: &[u8])
+fn put_server(t: &mut [u8], s: usize, b: &[u8], width: u8)
     requires { ⌜ Held (now t) ⌝ }
     requires { ⌜ Within (now t) s ⌝ }
     requires { ⌜ server (tableIn (now t)) s .log ≡ [] ⌝ }
-    requires { ⌜ Sized 1 (now b) ⌝ }
-    ensures { λ _. ⌜ Became (now (t .entry)) (now (t .exit)) (withServer (tableIn (now (t .entry))) s (serverIn (now (b .entry)))) ⌝ }
+    requires { ⌜ Sized width 1 (now b) ⌝ }
+    ensures { λ _. ⌜ Became (now (t .entry)) (now (t .exit)) (withServer (tableIn (now (t .entry))) s (serverIn width (now (b .entry)))) ⌝ }
 {
     // First the log: it asks that the server has none yet, which is known of the slice as it came.
-    put_log(t, s, b);
+    put_log(t, s, b, width);
     put_figures(t, s, figures_of(b));
 }
 
@@ -65,7 +68,7 @@ fn put_server(t: &mut [u8], s: usize, b: &[u8])
 fn put_marks(t: &mut [u8], b: &[u8])
     requires { ⌜ Held (now t) ⌝ }
     requires { ⌜ tableIn (now t) .marks ≡ replicate positions 0 ⌝ }
-    requires { ⌜ Sized 0 (now b) ⌝ }
+    requires { ⌜ length (now b) ≤ 4 * positions ⌝ }
     ensures { λ _. ⌜ Became (now (t .entry)) (now (t .exit)) (withMarks (marksIn (now (b .entry))) (tableIn (now (t .entry)))) ⌝ }
 {
     let n = (b.len() / 4) as u8;
@@ -97,7 +100,7 @@ fn fill_servers(t: &mut [u8], image: &[u8])
     let mut s: usize = 0;
     while s < n {
         s += 1;
-        put_server(t, s, body_of(image, s));
+        put_server(t, s, body_of(image, s), image[5]);
     }
 }
 

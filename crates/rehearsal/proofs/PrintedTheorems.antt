@@ -13,7 +13,7 @@ use Rattle.algorithm.specs.Table.{Table, trimmed, broken, fresh}
 use Rattle.words.specs.Lists.{nth, every}
 use Rattle.words.specs.Words.{bytes}
 use Rattle.table.specs.Layout.{tableBytes}
-use Rattle.image.specs.Image.{contents, image}
+use Rattle.image.specs.Image.{wide, contents, image}
 use Rattle.reader.specs.Reader.{readTable}
 use Rattle.reader.proofs.ReadBack.{end-back}
 use Rattle.reader.proofs.ReadTheorems.{read-back}
@@ -44,7 +44,7 @@ unfolding broken every nth mask ones
 case-sound = refl
 
 case-short : length (image (fresh 4 7 0 0) ++ plan) ≤ longest
-unfolding image contents flatten trimmed bytes
+unfolding image contents flatten trimmed bytes wide every
 case-short = omega arith
 
 pub whole-case : inputLines (image (fresh 4 7 0 0) ++ plan) ≡ expected

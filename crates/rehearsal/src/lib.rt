@@ -37,7 +37,7 @@ const REPLIES: usize = 8 * PIECES;
 pub const ROOM: usize = REPLIED * PIECES + CUT + TABLE;
 
 // Room for all that save writes: the longest image (image/specs/Image.antt).
-pub const IMAGE: usize = 4684;
+pub const IMAGE: usize = 8780;
 
 // An input is not played, and what is told of it is so long; or its actions begin at a place.
 pub(crate) enum Opened {

@@ -1,21 +1,22 @@
 -- A table that breaks no rule has room in the slice, and each of its words is a number of four bytes. Assumes nothing.
 use Prim.Native.Nat.{ℕ, zero, suc, _^_, _≤_, _<_}
 use native.Mathlib.Omega.{arith}
-use mathlib.Core.Path.{_≡_, refl, ap, subst}
-use mathlib.Core.Bool.{Bool, true, false, _||_, _&&_}
+use mathlib.Core.Path.{_≡_, refl, subst}
+use mathlib.Core.Bool.{Bool, true, false, _||_, _&&_, and-true}
 use mathlib.Core.Logic.{⊎-elim}
-use mathlib.Core.List.{List, [], _∷_}
+use mathlib.Core.List.{List, [], _∷_, _++_}
 use lib.Dec.{leb, ltb, leb·zero}
 use lib.ListN.{length, replicate}
 use lib.Pow.{pow-mono}
 use Rattle.members.specs.Members.{within}
-use Rattle.words.proofs.Tests.{Passes, both, less}
+use borrow.Author.Tests.{le-leb}
+use Rattle.words.proofs.Tests.{Passes, both, less, at-most}
 use Rattle.words.specs.Lists.{every, between}
-use Rattle.algorithm.specs.Table.{Log, Server, Table, primary, secondary, withLog, ceiling, soundConfig, soundEntry, soundServer, positions, mostServers}
+use Rattle.algorithm.specs.Table.{Log, Server, Table, primary, secondary, withLog, ceiling, largestBake, soundConfig, soundEntry, soundServer, positions, mostServers}
 use Rattle.words.proofs.Lists.{every-cons}
 use Rattle.algorithm.proofs.Sound.{SoundServer, SoundTable, server-sound}
 use Rattle.words.proofs.WordLaws.{FourBytes, words-append, words-zeros, words-between}
-use Rattle.table.specs.Layout.{padded, terms, row, head, rows, layout, rowWords}
+use Rattle.table.specs.Layout.{padded, terms, bakes, row, head, rows, layout, rowWords}
 use Rattle.table.specs.Slice.{AllRoomy, Shaped}
 
 -- ---- the rules as tests of numbers
@@ -34,11 +35,11 @@ server-parts n s =
     (leb (length (s .log)) positions)
     (every soundEntry (s .log))
 
--- an entry is sound by its term
-pub terms-sound : (l : Log) → every soundEntry l ≡ every (between 1 ceiling) (terms l)
+-- an entry whose bake is a number of four bytes is sound by its term
+pub terms-sound : (l : Log) → FourBytes (bakes l) → every soundEntry l ≡ every (between 1 ceiling) (terms l)
 unfolding every
-terms-sound [] = refl
-terms-sound (e ∷ l) = ap (λ (b : Bool). soundEntry e && b) (terms-sound l)
+terms-sound [] h = refl
+terms-sound (e ∷ l) h = rw (le-leb (e .bake) largestBake (omega arith), and-true, terms-sound l (h .1))
 
 pub marks-sound : (ms : List ℕ) → every (λ m. leb m ceiling) ms ≡ every (between 0 ceiling) ms
 unfolding every
@@ -53,8 +54,20 @@ words-padded zero l h = tt
 words-padded (suc k) [] h = (omega arith, words-padded k [] tt)
 words-padded (suc k) (x ∷ l) h = (h .0, words-padded k l (h .1))
 
-pub words-log : (l : Log) → Passes (every soundEntry l) → FourBytes (terms l)
-words-log l h = words-between 1 ceiling (omega arith) (terms l) (subst Passes (terms-sound l) h)
+pub words-bakes : (l : Log) → Passes (every soundEntry l) → FourBytes (bakes l)
+words-bakes [] h = tt
+words-bakes (e ∷ l) h =
+    let (here, rest) = every-cons soundEntry e l h in
+    (omega (arith, at-most {a = e .bake} (both {a = between 1 ceiling (e .term)} here .1)), words-bakes l rest)
+
+pub words-terms : (l : Log) → Passes (every soundEntry l) → FourBytes (terms l)
+words-terms l h = words-between 1 ceiling (omega arith) (terms l) (subst Passes (terms-sound l (words-bakes l h)) h)
+
+words-log : (l : Log) → Passes (every soundEntry l) → FourBytes (padded positions (terms l) ++ padded positions (bakes l))
+words-log l h =
+    words-append (padded positions (terms l)) (padded positions (bakes l))
+    (words-padded positions (terms l) (words-terms l h))
+    (words-padded positions (bakes l) (words-bakes l h))
 
 module _ {n : ℕ} (few : n ≤ mostServers) where
   small : (m : ℕ) → Passes (within m n) → m < 65536
@@ -76,7 +89,7 @@ module _ {n : ℕ} (few : n ≤ mostServers) where
         omega (arith, small (s .config .set) (h .config .set)),
         (
           omega (arith, h .config .version),
-          (omega (arith, h .config .term), (omega (arith, h .short), words-padded positions (terms (s .log)) (words-log (s .log) (h .entries)))),
+          (omega (arith, h .config .term), (omega (arith, h .short), words-log (s .log) (h .entries))),
         ),
       ),
     ),
@@ -99,6 +112,7 @@ pub words-layout : {t : Table} → SoundTable t → FourBytes (layout t)
 unfolding layout
 words-layout {t} s =
     let marks = words-between 0 ceiling (omega arith) (t .marks) (subst Passes (marks-sound (t .marks)) (s .marks)) in
+    let top = words-append (padded positions (t .marks)) (replicate positions 0) (words-padded positions (t .marks) marks) (words-zeros positions) in
     words-append (head t) (rows mostServers (t .servers))
-    (omega (arith, s .few), (omega (arith, s .rule), (omega (arith, s .floor), (omega arith, (omega arith, (omega arith, words-padded positions (t .marks) marks))))))
+    (omega (arith, s .few), (omega (arith, s .rule), (omega (arith, s .floor), (omega arith, (omega arith, (omega arith, top))))))
     (words-rows (s .few) mostServers (t .servers) (s .servers))

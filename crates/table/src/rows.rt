@@ -2,7 +2,7 @@
 ghost use mathlib.Core.Path.{_≡_};
 ghost use Prim.Native.Nat.{_≤_, _<_};
 ghost use lib.ListN.{length, getD};
-ghost use Rattle.algorithm.specs.Table.{configOf, entry, count, server, termAt, mark, changed, withMark, withRole, withTerm, withConfig, withEntry, withoutLast, positions, last};
+ghost use Rattle.algorithm.specs.Table.{configOf, entryOf, count, server, termAt, bakeAt, mark, changed, withMark, withRole, withTerm, withConfig, withEntry, withoutLast, positions, last};
 ghost use Rattle.table.specs.Layout.{rowWords, row, tableIn};
 ghost use Rattle.table.specs.Slice.{Held, Became, Within, seen};
 use crate::figures::Figures;
@@ -13,17 +13,17 @@ use algorithm::Version;
 use words::put;
 use words::word;
 
-// A server's figures, and of its log the length and the last entry, 0 where it is empty.
+// A server's figures, and of its log the length and the last entry's term, 0 where it is empty.
 pub struct Row {
     pub figures: Figures,
     pub length: Position,
     pub last: Term,
 }
 
-pub const ROW: usize = LOG + POSITIONS as usize;
+pub const ROW: usize = BAKES + ENTRIES;
 
-// The places of a server's figures in its row, and of its log's first entry: position p is p places after the length. The marks stand
-// in row 0 as a log does.
+// The places of a server's figures in its row, and of the first term and the first bake of its log: position p is p places after the
+// length, and its bake p places after the last term. The marks stand in row 0 as terms do.
 pub const ROLE: usize = 0;
 
 pub const TERM: usize = 1;
@@ -38,8 +38,12 @@ pub const LENGTH: usize = 5;
 
 pub const LOG: usize = 6;
 
-// How many words of a row are for entries, or for marks.
-pub const ENTRIES: usize = ROW - LOG;
+pub const BAKES: usize = LOG + ENTRIES;
+
+const LAST: usize = BAKES - 1;
+
+// How many words of a row are for terms, and for bakes, or for marks.
+pub const ENTRIES: usize = POSITIONS as usize;
 
 // The places of the rule and of the floor in row 0, behind the number of servers.
 pub const RULE: usize = 1;
@@ -149,7 +153,7 @@ pub fn row_of(t: &[u8], s: usize) -> Row
     }
 }
 
-// The log's last entry, 0 where it is empty.
+// The term of the log's last entry, 0 where it is empty.
 pub fn last_of(t: &[u8], s: usize) -> Term
     requires { ⌜ Held (now t) ⌝ }
     requires { ⌜ Within (now t) s ⌝ }
@@ -158,7 +162,7 @@ pub fn last_of(t: &[u8], s: usize) -> Term
     row_of(t, s).last
 }
 
-// The entry of server s at a position, 0 where it has none.
+// The term of server s's entry at a position, 0 where it has none.
 pub fn entry_of(t: &[u8], s: usize, p: Position) -> Term
     requires { ⌜ Held (now t) ⌝ }
     requires { ⌜ Within (now t) s ⌝ }
@@ -166,6 +170,16 @@ pub fn entry_of(t: &[u8], s: usize, p: Position) -> Term
     ensures { λ r. ⌜ r .0 ≡ termAt (server (tableIn (now (t .entry))) s .log) (p .0) ⌝ }
 {
     Term(field(t, s, LENGTH + p.0 as usize))
+}
+
+// The bake that this entry names, 0 where there is none.
+pub fn bake_of(t: &[u8], s: usize, p: Position) -> u32
+    requires { ⌜ Held (now t) ⌝ }
+    requires { ⌜ Within (now t) s ⌝ }
+    requires { ⌜ (1 ≤ p .0) × (p .0 ≤ positions) ⌝ }
+    ensures { λ r. ⌜ r ≡ bakeAt (server (tableIn (now (t .entry))) s .log) (p .0) ⌝ }
+{
+    field(t, s, LAST + p.0 as usize)
 }
 
 // The term committed at a position, or 0.
@@ -205,16 +219,17 @@ pub fn put_config(t: &mut [u8], s: usize, set: u16, version: Version, config: Te
 }
 
 // An entry more at the end of the log of server s, which has room for it.
-pub fn push(t: &mut [u8], s: usize, v: Term)
+pub fn push(t: &mut [u8], s: usize, v: Term, bake: u32)
     requires { ⌜ Held (now t) ⌝ }
     requires { ⌜ Within (now t) s ⌝ }
     requires { ⌜ length (server (tableIn (now t)) s .log) < positions ⌝ }
-    ensures { λ _. ⌜ Became (now (t .entry)) (now (t .exit)) (changed (tableIn (now (t .entry))) s (withEntry (entry (v .0)))) ⌝ }
+    ensures { λ _. ⌜ Became (now (t .entry)) (now (t .exit)) (changed (tableIn (now (t .entry))) s (withEntry (entryOf (v .0) bake))) ⌝ }
 {
-    let n = length_of(t, s).0 as u32 + 1;
-    let at = ROW * s + LENGTH;
-    put(t, at, n);
-    put(t, at + n as usize, v.0);
+    let n = length_of(t, s).0 as usize + 1;
+    let at = ROW * s;
+    put(t, at + LENGTH, n as u32);
+    put(t, at + (LENGTH + n), v.0);
+    put(t, at + (LAST + n), bake);
 }
 
 // The last entry of the log of server s goes.
@@ -224,10 +239,11 @@ pub fn pop(t: &mut [u8], s: usize)
     requires { ⌜ 1 ≤ length (server (tableIn (now t)) s .log) ⌝ }
     ensures { λ _. ⌜ Became (now (t .entry)) (now (t .exit)) (changed (tableIn (now (t .entry))) s withoutLast) ⌝ }
 {
-    let n = length_of(t, s).0 as u32;
-    let at = ROW * s + LENGTH;
-    put(t, at, n - 1);
-    put(t, at + n as usize, 0);
+    let n = length_of(t, s).0 as usize;
+    let at = ROW * s;
+    put(t, at + LENGTH, n as u32 - 1);
+    put(t, at + (LENGTH + n), 0);
+    put(t, at + (LAST + n), 0);
 }
 
 pub fn put_mark(t: &mut [u8], p: Position, v: Term)

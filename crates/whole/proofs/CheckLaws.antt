@@ -40,12 +40,23 @@ module _ (c : List ℕ) (at n : ℕ) where
   unfolding soundRow
   row-long k e h = rw (getD-drop at c 5 0, ← e, lt-leb k positions h)
 
-  pub row-at : (k : ℕ) (f e z : Bool) → k ≡ getD c (at + 5) 0 → k ≤ positions → f ≡ soundServer n (withLog [] (serverOf (drop at c)))
+  pub row-at : (k : ℕ) (f e z y : Bool) → k ≡ getD c (at + 5) 0 → k ≤ positions → f ≡ soundServer n (withLog [] (serverOf (drop at c)))
       → e ≡ every (between 1 ceiling) (part c (at + 6) k) → z ≡ every (between 0 0) (part c (at + (6 + k)) (positions - k))
-      → (f && e && z) ≡ soundRow n (drop at c)
+      → y ≡ every (between 0 0) (part c (at + (6 + positions + k)) (positions - k)) → (f && e && z && y) ≡ soundRow n (drop at c)
   unfolding soundRow
-  row-at k f e z ek h ef ee ez =
-      rw (getD-drop at c 5 0, ← ek, le-leb k positions h, drop-drop 6 at c, drop-drop (6 + k) at c, ← ef, ← ee, ← ez)
+  row-at k f e z y ek h ef ee ez ey =
+      rw (
+        getD-drop at c 5 0,
+        ← ek,
+        le-leb k positions h,
+        drop-drop 6 at c,
+        drop-drop (6 + k) at c,
+        drop-drop (6 + positions + k) at c,
+        ← ef,
+        ← ee,
+        ← ez,
+        ← ey,
+      )
 
 -- ---- a loop over rows
 
@@ -84,7 +95,9 @@ module _ (c : List ℕ) (n : ℕ) where
 
 -- ---- the parts of a table's words
 
-pub words-at : (c : List ℕ) (n w f : ℕ) (a b r z : Bool) → w ≡ getD c 1 0 → f ≡ getD c 2 0 → a ≡ every (between 0 0) (part c 3 3) → b ≡ every (between 0 ceiling) (part c 6 positions)
-    → r ≡ soundRows n n (drop rowWords c) → z ≡ every (between 0 0) (part c (rowWords * n + rowWords) (rowWords * mostServers - rowWords * n)) → (soundRule w && soundFloor f && a && b && r && z) ≡ soundWords n c
+pub words-at : (c : List ℕ) (n w f : ℕ) (a b y r z : Bool) → w ≡ getD c 1 0 → f ≡ getD c 2 0 → a ≡ every (between 0 0) (part c 3 3)
+    → b ≡ every (between 0 ceiling) (part c 6 positions) → y ≡ every (between 0 0) (part c (6 + positions) positions)
+    → r ≡ soundRows n n (drop rowWords c) → z ≡ every (between 0 0) (part c (rowWords * n + rowWords) (rowWords * mostServers - rowWords * n))
+    → (soundRule w && soundFloor f && a && b && y && r && z) ≡ soundWords n c
 unfolding soundWords
-words-at c n w f a b r z ew ef ea eb er ez = rw (ew, ef, ea, eb, er, ez)
+words-at c n w f a b y r z ew ef ea eb ey er ez = rw (ew, ef, ea, eb, ey, er, ez)

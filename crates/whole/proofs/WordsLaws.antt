@@ -10,7 +10,7 @@ use borrow.Author.Tests.{ne-eqb}
 use Rattle.words.proofs.Tests.{Passes, together, is-equal, is-true}
 use Rattle.algorithm.proofs.Sound.{SoundTable, table-sound, sound-table}
 use Rattle.words.specs.Words.{words, bytes}
-use Rattle.words.proofs.WordLaws.{length-words, bytes-words}
+use Rattle.words.proofs.WordLaws.{length-words, bytes-words, words-small}
 use Rattle.table.specs.Layout.{tableBytes, layout, stored, tableOf, tableIn, same, whole, tableWords}
 use Rattle.table.specs.Slice.{Held}
 use Rattle.table.proofs.RowLaws.{count-read}
@@ -72,7 +72,7 @@ module _ (b : List ℕ) (n : ℕ) (first : n ≡ getD (words b) 0 0) where
 
       whole-by : Passes (soundWords n (words b)) → Passes (whole b)
       whole-by h =
-          let (laid, s) = words-back n (words b) size first (omega arith) few h in
+          let (laid, s) = words-back n (words b) size (words-small b bytewise) first (omega arith) few h in
           whole-table b sized (bytes-words b tableWords sized bytewise) laid s
 
       by-whole : Passes (whole b) → Passes (soundWords n (words b))

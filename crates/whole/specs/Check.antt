@@ -8,7 +8,8 @@ use Rattle.words.specs.Lists.{every, between, part}
 use Rattle.algorithm.specs.Table.{withLog, ceiling, positions, mostServers, soundServer, soundRule, soundFloor}
 use Rattle.table.specs.Layout.{rowWords, serverOf}
 
--- d begins with the row of a server of a table of n: its five figures, its log's length, and its entries, 0 beyond the length
+-- d begins with the row of a server of a table of n: its five figures, its log's length, the terms of its entries, 0 beyond the
+-- length, and their bakes, any numbers, 0 beyond it too
 unfoldable pub soundRow : ℕ → List ℕ → Bool
 soundRow n d =
     let k = getD d 5 0 in
@@ -16,6 +17,7 @@ soundRow n d =
     && soundServer n (withLog [] (serverOf d))
     && every (between 1 ceiling) (part d 6 k)
     && every (between 0 0) (part d (6 + k) (positions - k))
+    && every (between 0 0) (part d (6 + positions + k) (positions - k))
 
 -- d begins with k such rows
 unfoldable pub soundRows : ℕ → ℕ → List ℕ → Bool
@@ -29,5 +31,6 @@ soundWords n c =
     && soundFloor (getD c 2 0)
     && every (between 0 0) (part c 3 3)
     && every (between 0 ceiling) (part c 6 positions)
+    && every (between 0 0) (part c (6 + positions) positions)
     && soundRows n n (drop rowWords c)
     && every (between 0 0) (part c (rowWords * n + rowWords) (rowWords * mostServers - rowWords * n))

@@ -15,6 +15,7 @@ use algorithm::Version;
 use table::BYTES;
 use table::figures::Figures;
 use table::figures::figures_sound;
+use table::rows::BAKES;
 use table::rows::CONFIG;
 use table::rows::ENTRIES;
 use table::rows::FLOOR;
@@ -59,6 +60,7 @@ fn row_figures_sound(t: &[u8], n: u8, s: usize) -> bool
     figures_sound(f, n)
 }
 
+// Any word is a bake: those within the log are not looked at.
 fn row_sound(t: &[u8], n: u8, s: usize) -> bool
     requires { ⌜ (length (now t) ≡ tableBytes) × (s ≤ mostServers) ⌝ }
     ensures { λ r. ⌜ r ≡ soundRow n (drop (rowWords * s) (words (now (t .entry)))) ⌝ }
@@ -72,7 +74,8 @@ fn row_sound(t: &[u8], n: u8, s: usize) -> bool
     let figures = row_figures_sound(t, n, s);
     let entries = all_between(t, at + LOG, k, 1, CEILING);
     let beyond = all_between(t, at + (LOG + k), ENTRIES - k, 0, 0);
-    figures & entries & beyond
+    let bare = all_between(t, at + (BAKES + k), ENTRIES - k, 0, 0);
+    figures & entries & beyond & bare
 }
 
 fn rows_sound(t: &[u8], n: u8) -> bool
@@ -99,9 +102,10 @@ fn words_sound(t: &[u8], n: u8) -> bool
     let floor = word(t, FLOOR);
     let spare = all_between(t, SPARE, SPARE_WORDS, 0, 0);
     let marks = all_between(t, LOG, ENTRIES, 0, CEILING);
+    let bare = all_between(t, BAKES, ENTRIES, 0, 0);
     let rows = rows_sound(t, n);
     let beyond = all_between(t, used + ROW, SERVER_WORDS - used, 0, 0);
-    (rule <= RULE_2) & (floor <= MOST) & spare & marks & rows & beyond
+    (rule <= RULE_2) & (floor <= MOST) & spare & marks & bare & rows & beyond
 }
 
 // The slice is a table that breaks no rule.

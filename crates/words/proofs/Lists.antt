@@ -1,8 +1,8 @@
 -- Laws of lists counted from 1. Assumes nothing.
-use Prim.Native.Nat.{ℕ, zero, suc, _≤_}
-use mathlib.Core.Bool.{Bool}
+use Prim.Native.Nat.{ℕ, zero, suc, _≤_, _<_}
+use mathlib.Core.Bool.{Bool, and-true, and-assoc, _&&_}
 use mathlib.Core.List.{List, [], _∷_, _++_}
-use mathlib.Core.Path.{_≡_, refl, _∙_}
+use mathlib.Core.Path.{_≡_, refl, ap, sym, _∙_}
 use native.Mathlib.Decide.{ℕ-discrete}
 use native.Mathlib.Omega.{arith}
 use lib.ListN.{length, getD, take, set, length-set, replicate}
@@ -85,6 +85,14 @@ module _ {A : Type 0} where
     every-take zero l t = nil-every
     every-take (suc n) [] t = t
     every-take (suc n) (b ∷ l) t = let (here, rest) = every-cons b l t in cons-every b (take n l) here (every-take n l rest)
+
+    -- one element more
+    pub every-more : (l : List A) (d : A) (i : ℕ) → i < length l → every p (take (suc i) l) ≡ (every p (take i l) && p (getD l i d))
+    unfolding every
+    every-more [] d i h = absurd (omega arith)
+    every-more (a ∷ l) d zero h = and-true (p a)
+    every-more (a ∷ l) d (suc i) h =
+        ap (λ (b : Bool). p a && b) (every-more l d i (omega arith)) ∙ sym (and-assoc (p a) (every p (take i l)) (p (getD l i d)))
 
     pub every-replicate : (n : ℕ) (a : A) → Passes (p a) → Passes (every p (replicate n a))
     every-replicate zero a h = nil-every

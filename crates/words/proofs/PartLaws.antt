@@ -1,21 +1,16 @@
 -- A loop over the words of a part, each tested. Assumes nothing.
-use Prim.Native.Nat.{ℕ, zero, suc, _+_, _*_, _≤_, _<_}
+use Prim.Native.Nat.{ℕ, _+_, _*_, _≤_, _<_}
 use native.Mathlib.Numerals.{add-one}
 use native.Mathlib.Omega.{arith}
 use mathlib.Core.Path.{_≡_, refl, ap, sym, _∙_}
-use mathlib.Core.Bool.{Bool, true, and-true, and-assoc, _&&_}
-use mathlib.Core.List.{List, [], _∷_}
-use lib.ListN.{length, getD, take, drop, length-drop}
+use mathlib.Core.Bool.{Bool, true, _&&_}
+use mathlib.Core.List.{List}
+use lib.ListN.{length, getD, drop, length-drop}
 use lib.Seq.{getD-drop}
 use Rattle.words.specs.Lists.{every, between, part}
 use Rattle.words.specs.Words.{words}
+use Rattle.words.proofs.Lists.{every-more}
 use Rattle.words.proofs.WordLaws.{length-words}
-
-every-more : (p : ℕ → Bool) (l : List ℕ) (i : ℕ) → i < length l → every p (take (suc i) l) ≡ (every p (take i l) && p (getD l i 0))
-unfolding every
-every-more p [] i h = absurd (omega arith)
-every-more p (x ∷ l) zero h = and-true (p x)
-every-more p (x ∷ l) (suc i) h = ap (λ (b : Bool). p x && b) (every-more p l i (omega arith)) ∙ sym (and-assoc (p x) (every p (take i l)) (p (getD l i 0)))
 
 -- the first i words from word k are tested, and ok tells whether they pass
 pub record Tested (b : List ℕ) (k low high i : ℕ) (ok : Bool) : Type 0 where
@@ -34,7 +29,7 @@ module _ (b : List ℕ) (k low high : ℕ) where
       record {
         tells =
             rw (e .tells, v, add-one)
-            (sym (every-more (between low high) d i (simp length-drop (omega (arith, length-words b)))));
+            (sym (every-more (between low high) d 0 i (simp length-drop (omega (arith, length-words b)))));
       }
 
   pub tested-all : (n i : ℕ) (ok : Bool) → i ≤ n → n ≤ i → Tested b k low high i ok → ok ≡ every (between low high) (part (words b) k n)

@@ -20,7 +20,7 @@ past-0 : (k : ℕ) → 4 * suc k ≡ suc (suc (suc (suc (4 * k))))
 past-0 k = omega arith
 
 -- word k is made of the bytes at 4k and after
-word-at : (b : List ℕ) (k : ℕ) → 4 * k + 4 ≤ length b
+pub word-at : (b : List ℕ) (k : ℕ) → 4 * k + 4 ≤ length b
     → getD (words b) k 0 ≡ wordOf (getD b (4 * k) 0) (getD b (4 * k + 1) 0) (getD b (4 * k + 2) 0) (getD b (4 * k + 3) 0)
 unfolding words
 word-at [] k h = absurd (omega arith)
@@ -131,6 +131,31 @@ words-append (x ∷ l) m h k = (h .0, words-append l m (h .1) k)
 pub words-zeros : (k : ℕ) → FourBytes (replicate k 0)
 words-zeros zero = tt
 words-zeros (suc k) = (omega arith, words-zeros k)
+
+-- so is each of a part of them
+pub words-drop : (k : ℕ) (l : List ℕ) → FourBytes l → FourBytes (drop k l)
+words-drop zero l h = h
+words-drop (suc k) [] h = tt
+words-drop (suc k) (x ∷ l) h = words-drop k l (h .1)
+
+pub words-take : (k : ℕ) (l : List ℕ) → FourBytes l → FourBytes (take k l)
+words-take zero l h = tt
+words-take (suc k) [] h = tt
+words-take (suc k) (x ∷ l) h = (h .0, words-take k l (h .1))
+
+-- and each that four bytes make
+pub words-small : (b : List ℕ) → ((i : ℕ) → getD b i 0 < 256) → FourBytes (words b)
+unfolding words
+words-small [] h = tt
+words-small (x ∷ []) h = tt
+words-small (x ∷ y ∷ []) h = tt
+words-small (x ∷ y ∷ z ∷ []) h = tt
+words-small (x ∷ y ∷ z ∷ w ∷ r) h =
+    let hx : x < 256 = h 0 in
+    let hy : y < 256 = h 1 in
+    let hz : z < 256 = h 2 in
+    let hw : w < 256 = h 3 in
+    (omega arith, words-small r (λ i. h (suc (suc (suc (suc i))))))
 
 pub words-between : (low high : ℕ) → high < 4294967296 → (l : List ℕ) → Passes (every (between low high) l) → FourBytes l
 words-between low high small [] h = tt

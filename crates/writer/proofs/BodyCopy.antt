@@ -6,7 +6,7 @@ use mathlib.Core.Bool.{_||_}
 use mathlib.Core.List.{List, [], _∷_, _++_}
 use mathlib.Core.Logic.{⊎-elim}
 use lib.Dec.{leb, eqb}
-use lib.ListN.{length, getD, take, drop, replicate}
+use lib.ListN.{length, getD, take, drop, replicate, length-drop}
 use lib.Seq.{getD-drop}
 use Rattle.words.proofs.Tests.{Passes, both, either, equal, at-most}
 use Rattle.words.specs.Lists.{nth, every, between}
@@ -15,9 +15,9 @@ use Rattle.words.specs.Words.{half, words, bytes}
 use Rattle.words.proofs.WordLaws.{length-words, bytes-words}
 use Rattle.table.specs.Layout.{padded}
 use Rattle.table.proofs.LayoutLaws.{padded-is}
-use Rattle.whole.proofs.WholeLaws.{terms-entries}
-use Rattle.image.specs.Contents.{figureBytes, marksIn, serverIn, soundMarksBody}
+use Rattle.image.specs.Contents.{figureBytes, entryBytes, marksIn, serverIn, soundMarksBody}
 use Rattle.image.specs.Image.{marksBody, serverBody}
+use Rattle.image.proofs.LogLaws.{words-back}
 
 -- ---- lists of bytes
 
@@ -77,16 +77,23 @@ three-first (x ∷ []) h = absurd (omega arith)
 three-first (x ∷ y ∷ []) h = absurd (omega arith)
 three-first (x ∷ y ∷ z ∷ w) h = refl
 
-pub server-copy : (b : List ℕ) (k : ℕ) → Bytes b → length b ≡ 4 * k → figureBytes ≤ length b → getD b 1 0 ≡ 0 → serverBody (serverIn b) ≡ b
+-- entries of either width are whole words
+four-by : (w k n : ℕ) → n ≡ 12 + entryBytes w * k → n ≡ 4 * (n / 4)
+four-by zero k n e = omega arith
+four-by (suc w) k n e = omega arith
+
+pub server-copy : (w : ℕ) (b : List ℕ) (k : ℕ) → Bytes b → length b ≡ figureBytes + entryBytes w * k → getD b 1 0 ≡ 0 → serverBody w (serverIn w b) ≡ b
 unfolding words
-server-copy [] k h e l z = absurd (omega arith)
-server-copy (x ∷ []) k h e l z = absurd (omega arith)
-server-copy (x ∷ y ∷ []) k h e l z = absurd (omega arith)
-server-copy (x ∷ y ∷ u ∷ []) k h e l z = absurd (omega arith)
-server-copy (x ∷ y ∷ u ∷ v ∷ r) zero h e l z = absurd (omega arith)
-server-copy (x ∷ y ∷ u ∷ v ∷ r) (suc k) h e l z =
-    let w = words r in
-    let log = ap (λ (m : List ℕ). bytes (getD w 0 0 ∷ getD w 1 0 ∷ getD w 2 0 ∷ m)) (terms-entries (drop 3 w)) in
+server-copy w [] k h e z = absurd (omega arith)
+server-copy w (x ∷ []) k h e z = absurd (omega arith)
+server-copy w (x ∷ y ∷ []) k h e z = absurd (omega arith)
+server-copy w (x ∷ y ∷ u ∷ []) k h e z = absurd (omega arith)
+server-copy w (x ∷ y ∷ u ∷ v ∷ r) k h e z =
+    let ws = words r in
+    let j : ℕ = length r / 4 in
+    let four : length r ≡ 4 * j = four-by w k (length r) (omega arith) in
+    let many : 4 * length (drop 3 ws) ≡ entryBytes w * k = simp length-drop (omega (arith, length-words r)) in
+    let log = ap (λ (m : List ℕ). bytes (getD ws 0 0 ∷ getD ws 1 0 ∷ getD ws 2 0 ∷ m)) (words-back w (drop 3 ws) k many) in
     let tail =
-    log ∙ ap bytes (three-first w (omega (arith, length-words r))) ∙ bytes-words r k (omega arith) (λ i. h (suc (suc (suc (suc i))))) in
+    log ∙ ap bytes (three-first ws (omega (arith, length-words r))) ∙ bytes-words r j four (λ i. h (suc (suc (suc (suc i))))) in
     λ i. x ∷ sym z i ∷ (half-of u v (h 2) (h 3) i ++ tail i)

@@ -12,10 +12,10 @@ use Rattle.words.specs.Words.{half}
 use Rattle.table.specs.Layout.{tableIn}
 use Rattle.buffer.specs.Buffer.{Wrote}
 use Rattle.buffer.proofs.WroteLaws.{wrote-none, sized, then, part, part-wrote}
-use Rattle.image.specs.Contents.{firstBody, figureBytes}
-use Rattle.image.specs.Image.{opening, serverBody, bodies, contents, image}
+use Rattle.image.specs.Contents.{firstBody, figureBytes, entryBytes}
+use Rattle.image.specs.Image.{wide, opening, serverBody, bodies, bodyOf, contents, image}
 use Rattle.image.proofs.ImageLaws.{flatten-more, flatten-most, length-contents, place, many, length-image}
-use Rattle.writer.specs.Writer.{bodyOf, Savable}
+use Rattle.writer.specs.Writer.{Savable}
 
 -- ---- one entry more
 
@@ -35,7 +35,7 @@ module _ (d : List ℕ) where
 -- body e begins at a place
 pub record Placed (t : Table) (e at : ℕ) : Type 0 where
   pub offset : at ≡ place t e
-  pub small : at ≤ firstBody mostServers + (figureBytes + 4 * positions) * e
+  pub small : at ≤ firstBody mostServers + (figureBytes + entryBytes 1 * positions) * e
 
 module _ (t : List ℕ) (n : ℕ) (c : n ≡ count (tableIn t)) where
   pub few-servers : Savable t → n ≤ mostServers
@@ -46,10 +46,10 @@ module _ (t : List ℕ) (n : ℕ) (c : n ≡ count (tableIn t)) where
   placed-none at h f = record { offset = omega arith; small = omega (arith, h .held .shaped .few) }
 
   module _ (e at : ℕ) (p : Placed (tableIn t) e at) where
-    pub placed-more : (v : ℕ) → e ≤ n → v ≡ length (bodyOf (tableIn t) e) → v ≤ figureBytes + 4 * positions → Placed (tableIn t) (e + 1) (at + v)
+    pub placed-more : (v : ℕ) → e ≤ n → v ≡ length (bodyOf (tableIn t) e) → v ≤ figureBytes + entryBytes 1 * positions → Placed (tableIn t) (e + 1) (at + v)
     placed-more v l s m =
         let bs = bodies (tableIn t) in
-        let longer = flatten-more (serverBody absent) bs e (omega (arith, many (tableIn t))) in
+        let longer = flatten-more (serverBody (wide (tableIn t)) absent) bs e (omega (arith, many (tableIn t))) in
         record {
           offset =
               rw (add-one, longer)
@@ -80,7 +80,7 @@ module _ (t : Table) (b : List ℕ) (from : ℕ) where
     pub entered-more : (b₂ b₃ : List ℕ) (at v d f : ℕ) → e ≤ n → Placed t e at → v ≡ length (bodyOf t e) → Wrote b₁ b₂ end (half at) d
         → Wrote b₂ b₃ d (half v) f → Entered t b from b₃ (e + 1) f
     entered-more b₂ b₃ at v d f l p s w x =
-        let next = contents-more (serverBody absent) (firstBody (count t)) (bodies t) e (omega (arith, many t)) in
+        let next = contents-more (serverBody (wide t) absent) (firstBody (count t)) (bodies t) e (omega (arith, many t)) in
         record {
           long = sized (then w x) ∙ g .long;
           end = omega (arith, g .end, w .end, x .end);
@@ -109,7 +109,7 @@ module _ (t : Table) (b : List ℕ) (from : ℕ) where
     pub body-room : e ≤ n → from + length (flatten (bodies t)) ≤ length b → length (bodyOf t e) ≤ length (take (length b₁ - at) (drop at b₁))
     body-room l h =
         rw (part b₁ at body-start)
-        (omega (arith, length-drop at b₁, g .long, g .wrote .end, flatten-most (serverBody absent) (bodies t) e (omega (arith, many t))))
+        (omega (arith, length-drop at b₁, g .long, g .wrote .end, flatten-most (serverBody (wide t) absent) (bodies t) e (omega (arith, many t))))
 
     pub bodied-more : (ys : List ℕ) (r : ℕ) → e ≤ n → Wrote (take (length b₁ - at) (drop at b₁)) ys 0 (bodyOf t e) r
         → Bodied t b from (take at b₁ ++ (ys ++ drop (length b₁ - at) (drop at b₁))) (e + 1) (at + r)
@@ -118,7 +118,7 @@ module _ (t : Table) (b : List ℕ) (from : ℕ) where
         record {
           long = sized next ∙ g .long;
           wrote =
-              rw (add-one, flatten-more (serverBody absent) (bodies t) e (omega (arith, many t))) (then (g .wrote) next);
+              rw (add-one, flatten-more (serverBody (wide t) absent) (bodies t) e (omega (arith, many t))) (then (g .wrote) next);
         }
 
     pub bodied-all : e ≤ n + 1 → n < e → Wrote b b₁ from (flatten (bodies t)) at
@@ -126,9 +126,9 @@ module _ (t : Table) (b : List ℕ) (from : ℕ) where
 
 -- ---- the image
 
-pub opening-wrote : (t : Table) (b b₁ b₂ : List ℕ) (n R F c d : ℕ) → n ≡ count t → R ≡ t .rule → F ≡ t .floor
-    → Wrote b b₁ 0 (83 ∷ 73 ∷ 84 ∷ 69 ∷ []) c → Wrote b₁ b₂ c (n ∷ 0 ∷ R ∷ F ∷ []) d → Wrote b b₂ 0 (opening t) d
-opening-wrote t b b₁ b₂ n R F c d en er ef w x = rw (en, er, ef) at (then w x)
+pub opening-wrote : (t : Table) (b b₁ b₂ : List ℕ) (n W R F c d : ℕ) → n ≡ count t → W ≡ wide t → R ≡ t .rule → F ≡ t .floor
+    → Wrote b b₁ 0 (83 ∷ 73 ∷ 84 ∷ 69 ∷ []) c → Wrote b₁ b₂ c (n ∷ W ∷ R ∷ F ∷ []) d → Wrote b b₂ 0 (opening t) d
+opening-wrote t b b₁ b₂ n W R F c d en ew er ef w x = rw (en, ew, er, ef) at (then w x)
 
 module _ (t : Table) (b : List ℕ) (h : length (image t) ≤ length b) where
   pub opening-room : 8 ≤ length b

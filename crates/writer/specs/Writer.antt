@@ -1,15 +1,15 @@
--- The writer: its refusals, what it gives where none holds, and the bodies that it writes. Assumes nothing.
+-- The writer: its refusals, and what it gives where none holds. Assumes nothing.
 use Prim.Native.Nat.{ℕ, _<_}
 use mathlib.Core.Bool.{not}
 use mathlib.Core.Path.{_≡_}
 use mathlib.Core.List.{List, [], _∷_, _++_}
 use lib.Dec.{ltb}
-use lib.ListN.{length, drop, getD}
+use lib.ListN.{length, drop}
 use Rattle.words.specs.Refusal.{Refusal, refuse, first, unlessRefused}
-use Rattle.algorithm.specs.Table.{Table, absent, server}
+use Rattle.algorithm.specs.Table.{server}
 use Rattle.table.specs.Layout.{tableIn, whole}
 use Rattle.table.specs.Slice.{Held}
-use Rattle.image.specs.Image.{image, serverBody, bodies}
+use Rattle.image.specs.Image.{image}
 
 -- the image of the table in a slice
 abbrev pub imageOf : List ℕ → List ℕ
@@ -36,10 +36,6 @@ pub record WriteAnswer (slice buffer : List ℕ) (e r : ℕ) (buffer' : List ℕ
   pub reply : r ≡ writeReply slice buffer
   pub bytes : buffer' ≡ writeBytes slice buffer
   pub end : e' ≡ endAfterWrite slice buffer e
-
--- body e of a table's image: 0 is that of the marks, s that of server s
-abbrev pub bodyOf : Table → ℕ → List ℕ
-bodyOf t e = getD (bodies t) e (serverBody absent)
 
 -- the slice holds a table, of which each role, the rule and the floor are bytes
 pub record Savable (b : List ℕ) : Type 0 where

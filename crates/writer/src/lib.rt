@@ -8,11 +8,12 @@ ghost use Rattle.algorithm.specs.Table.{count};
 ghost use Rattle.table.specs.Layout.{tableIn};
 ghost use Rattle.buffer.specs.Buffer.{Wrote};
 ghost use Rattle.image.specs.Contents.{firstBody};
-ghost use Rattle.image.specs.Image.{opening, bodies, contents};
+ghost use Rattle.image.specs.Image.{wide, opening, bodies, contents};
 ghost use Rattle.writer.specs.Writer.{Savable, imageOf, WriteAnswer};
 use crate::bodies::put_body;
 use crate::bodies::put_half;
 use crate::bodies::size_of;
+use crate::bodies::width_of;
 use buffer::put_word;
 use image::contents::first_body;
 use table::rows::count_of;
@@ -23,33 +24,36 @@ use whole::is_whole;
 mod bodies;
 
 // The length of the image.
-fn image_length(t: &[u8]) -> usize
+fn image_length(t: &[u8], width: u8) -> usize
     requires { ⌜ Savable (now t) ⌝ }
+    requires { ⌜ width ≡ wide (tableIn (now t)) ⌝ }
     ensures { λ r. ⌜ r ≡ length (imageOf (now (t .entry))) ⌝ }
 {
     let n = count_of(t) as usize;
     let mut at = first_body(n);
     let mut e: usize = 0;
     while e <= n {
-        at += size_of(t, e);
+        at += size_of(t, e, width);
         e += 1;
     }
     at
 }
 
-fn put_opening(buffer: &mut [u8], t: &[u8]) -> usize
+fn put_opening(buffer: &mut [u8], t: &[u8], width: u8) -> usize
     requires { ⌜ Savable (now t) ⌝ }
+    requires { ⌜ width ≡ wide (tableIn (now t)) ⌝ }
     requires { ⌜ 8 ≤ length (now buffer) ⌝ }
     ensures { λ r. ⌜ Wrote (now (buffer .entry)) (now (buffer .exit)) 0 (opening (tableIn (now (t .entry)))) r ⌝ }
 {
-    let figures = [count_of(t), 0, rule_of(t) as u8, floor_of(t) as u8];
+    let figures = [count_of(t), width, rule_of(t) as u8, floor_of(t) as u8];
     let end = put_word(buffer, 0, b"SITE");
     put_word(buffer, end, &figures)
 }
 
 // For each body its entry: its offset, which is where the one before it ends, and its length.
-fn put_contents(buffer: &mut [u8], from: usize, t: &[u8]) -> usize
+fn put_contents(buffer: &mut [u8], from: usize, t: &[u8], width: u8) -> usize
     requires { ⌜ Savable (now t) ⌝ }
+    requires { ⌜ width ≡ wide (tableIn (now t)) ⌝ }
     requires { ⌜ from + 4 * (count (tableIn (now t)) + 1) ≤ length (now buffer) ⌝ }
     ensures { λ r. ⌜ Wrote (now (buffer .entry)) (now (buffer .exit)) from (contents (firstBody (count (tableIn (now (t .entry))))) (bodies (tableIn (now (t .entry))))) r ⌝ }
 {
@@ -58,7 +62,7 @@ fn put_contents(buffer: &mut [u8], from: usize, t: &[u8]) -> usize
     let mut at = first_body(n);
     let mut e: usize = 0;
     while e <= n {
-        let size = size_of(t, e);
+        let size = size_of(t, e, width);
         end = put_half(buffer, end, at);
         end = put_half(buffer, end, size);
         at += size;
@@ -68,8 +72,9 @@ fn put_contents(buffer: &mut [u8], from: usize, t: &[u8]) -> usize
 }
 
 // The bodies one behind another: who writes a body is lent the buffer from there on, and sees nothing before it.
-fn put_bodies(buffer: &mut [u8], from: usize, t: &[u8]) -> usize
+fn put_bodies(buffer: &mut [u8], from: usize, t: &[u8], width: u8) -> usize
     requires { ⌜ Savable (now t) ⌝ }
+    requires { ⌜ width ≡ wide (tableIn (now t)) ⌝ }
     requires { ⌜ from + length (flatten (bodies (tableIn (now t)))) ≤ length (now buffer) ⌝ }
     ensures { λ r. ⌜ Wrote (now (buffer .entry)) (now (buffer .exit)) from (flatten (bodies (tableIn (now (t .entry))))) r ⌝ }
 {
@@ -77,20 +82,31 @@ fn put_bodies(buffer: &mut [u8], from: usize, t: &[u8]) -> usize
     let mut at = from;
     let mut e: usize = 0;
     while e <= n {
-        at += put_body(&mut buffer[at..], t, e);
+        at += put_body(&mut buffer[at..], t, e, width);
         e += 1;
     }
     at
 }
 
+fn put_parts(buffer: &mut [u8], t: &[u8], width: u8) -> usize
+    requires { ⌜ Savable (now t) ⌝ }
+    requires { ⌜ width ≡ wide (tableIn (now t)) ⌝ }
+    requires { ⌜ length (imageOf (now t)) ≤ length (now buffer) ⌝ }
+    ensures { λ r. ⌜ Wrote (now (buffer .entry)) (now (buffer .exit)) 0 (imageOf (now (t .entry))) r ⌝ }
+{
+    let end = put_opening(buffer, t, width);
+    let end = put_contents(buffer, end, t, width);
+    put_bodies(buffer, end, t, width)
+}
+
+// The image, into a buffer that has room for it.
 pub fn put_image(buffer: &mut [u8], t: &[u8]) -> usize
     requires { ⌜ Savable (now t) ⌝ }
     requires { ⌜ length (imageOf (now t)) ≤ length (now buffer) ⌝ }
     ensures { λ r. ⌜ Wrote (now (buffer .entry)) (now (buffer .exit)) 0 (imageOf (now (t .entry))) r ⌝ }
 {
-    let end = put_opening(buffer, t);
-    let end = put_contents(buffer, end, t);
-    put_bodies(buffer, end, t)
+    let width = width_of(t);
+    put_parts(buffer, t, width)
 }
 
 // Writes the image of a table into a buffer, and puts into `end` where it ends. Refused, it touches neither.
@@ -100,9 +116,10 @@ pub fn write(table: &[u8], buffer: &mut [u8], end: &mut u64) -> u32
     if !is_whole(table) {
         return 1;
     }
-    if buffer.len() < image_length(table) {
+    let width = width_of(table);
+    if buffer.len() < image_length(table, width) {
         return 35;
     }
-    *end = put_image(buffer, table) as u64;
+    *end = put_parts(buffer, table, width) as u64;
     0
 }

@@ -8,10 +8,10 @@ use Rattle.writer.proofs.image_length.Statement.{statement}
 use Rattle.writer.proofs.image_length.Tie as tie
 
 abbrev Inv-loop : tie.InvT-loop
-Inv-loop t n at₀ e₀ at e = (e ≤ n + 1) × (n ≤ mostServers) × Placed (tableIn t) e at
+Inv-loop t width n at₀ e₀ at e = (e ≤ n + 1) × (n ≤ mostServers) × Placed (tableIn t) e at
 
 abbrev μ-loop : tie.MeasureT-loop
-μ-loop t n at₀ e₀ at e = n + 1 - e
+μ-loop t width n at₀ e₀ at e = n + 1 - e
 
 loop-holds : tie.Need-loop-holds Inv-loop μ-loop
 loop-holds c = (search needs, search (needs, few-servers), search (needs, placed-none))

@@ -8,10 +8,10 @@ use Rattle.writer.proofs.put_bodies.Statement.{statement}
 use Rattle.writer.proofs.put_bodies.Tie as tie
 
 abbrev Inv-loop : tie.InvT-loop
-Inv-loop buffer₀ from t n at₀ e₀ buffer at e = (e ≤ n + 1) × (n ≤ mostServers) × Bodied (tableIn t) buffer₀ from buffer e at
+Inv-loop buffer₀ from t width n at₀ e₀ buffer at e = (e ≤ n + 1) × (n ≤ mostServers) × Bodied (tableIn t) buffer₀ from buffer e at
 
 abbrev μ-loop : tie.MeasureT-loop
-μ-loop buffer₀ from t n at₀ e₀ buffer at e = n + 1 - e
+μ-loop buffer₀ from t width n at₀ e₀ buffer at e = n + 1 - e
 
 loop-holds : tie.Need-loop-holds Inv-loop μ-loop
 loop-holds c = (search needs, search (needs, few-servers), bodied-none _ _ _ (search needs))
@@ -20,7 +20,7 @@ part-put-body-start : tie.Need-part-put-body-start Inv-loop μ-loop
 part-put-body-start c = search (needs, body-start)
 
 put-body-requires : tie.Need-put-body-requires Inv-loop μ-loop
-put-body-requires c κs = (search needs, (search needs, search (needs, body-room)))
+put-body-requires c κs = (search needs, (search needs, (search needs, search (needs, body-room))))
 
 loop-again : tie.Need-loop-again Inv-loop μ-loop
 loop-again c = (search needs, search needs, search (needs, bodied-more))

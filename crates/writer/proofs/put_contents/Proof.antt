@@ -8,10 +8,10 @@ use Rattle.writer.proofs.put_contents.Statement.{statement}
 use Rattle.writer.proofs.put_contents.Tie as tie
 
 abbrev Inv-loop : tie.InvT-loop
-Inv-loop buffer₀ from t n end₀ at₀ e₀ buffer end at e = (e ≤ n + 1) × (n ≤ mostServers) × Placed (tableIn t) e at × Entered (tableIn t) buffer₀ from buffer e end
+Inv-loop buffer₀ from t width n end₀ at₀ e₀ buffer end at e = (e ≤ n + 1) × (n ≤ mostServers) × Placed (tableIn t) e at × Entered (tableIn t) buffer₀ from buffer e end
 
 abbrev μ-loop : tie.MeasureT-loop
-μ-loop buffer₀ from t n end₀ at₀ e₀ buffer end at e = n + 1 - e
+μ-loop buffer₀ from t width n end₀ at₀ e₀ buffer end at e = n + 1 - e
 
 loop-holds : tie.Need-loop-holds Inv-loop μ-loop
 loop-holds c = (search needs, search (needs, few-servers), search (needs, placed-none), entered-none _ _ _ (search needs))

@@ -1,27 +1,7 @@
 -- `writer::put_image` meets its contract. Assumes nothing.
 use borrow.Author.Needs.{needs}
-use Rattle.writer.proofs.PlaceLaws.{opening-room, contents-room, bodies-room, image-wrote}
 use Rattle.writer.proofs.put_image.Statement.{statement}
 use Rattle.writer.proofs.put_image.Tie as tie
 
-put-opening-requires : tie.Need-put-opening-requires
-put-opening-requires c κs = (search needs, search (needs, opening-room))
-
-put-contents-requires : tie.Need-put-contents-requires
-put-contents-requires c κs = (search needs, search (needs, contents-room))
-
-put-bodies-requires : tie.Need-put-bodies-requires
-put-bodies-requires c κs = (search needs, search (needs, bodies-room))
-
-returns : tie.Need-returns
-returns c = search (needs, image-wrote)
-
 pub put-image-spec : {M : Type 1} → statement M
-put-image-spec =
-    tie.close
-    (tie.spec
-    put-opening-requires
-    put-contents-requires
-    put-bodies-requires
-    (λ c. search needs)
-    returns)
+put-image-spec = tie.close (tie.spec (λ c κs. search needs) (λ c κs. search needs) (λ c. search needs) (λ c. search needs))

@@ -7,14 +7,17 @@ use Rattle.writer.proofs.write.Tie as tie
 returns : tie.Need-returns
 returns c = search (needs, no-table)
 
+width-of-requires : tie.Need-width-of-requires
+width-of-requires c κs = search (needs, savable)
+
 image-length-requires : tie.Need-image-length-requires
-image-length-requires c κs = search (needs, savable)
+image-length-requires c κs = (search (needs, savable), search needs)
 
 returns-2 : tie.Need-returns-2
 returns-2 c = search (needs, no-room)
 
-put-image-requires : tie.Need-put-image-requires
-put-image-requires c κs = (search (needs, savable), search needs)
+put-parts-requires : tie.Need-put-parts-requires
+put-parts-requires c κs = (search (needs, savable), (search needs, search needs))
 
 returns-3 : tie.Need-returns-3
 returns-3 c = search (needs, written)
@@ -25,8 +28,9 @@ write-spec =
     (tie.spec
     (λ c κs. search needs)
     returns
+    width-of-requires
     image-length-requires
     returns-2
-    put-image-requires
+    put-parts-requires
     (λ c. search needs)
     returns-3)

@@ -8,4 +8,4 @@ returns : tie.Need-returns
 returns c = search (needs, fetch-put)
 
 pub fetch-spec : {M : Type 1} → statement M
-fetch-spec = tie.close (tie.spec (λ c κs. search needs) (λ c. search needs) (λ c κs. search needs) (λ c κs. search needs) (λ c. search needs) returns)
+fetch-spec = tie.close (tie.spec (λ c κs. search needs) (λ c. search needs) (λ c κs. search needs) (λ c κs. search needs) (λ c κs. search needs) (λ c. search needs) returns)

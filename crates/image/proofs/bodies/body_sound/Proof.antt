@@ -19,6 +19,7 @@ body-sound-spec =
     (tie.spec
     (λ c κs. search needs)
     (λ c. search needs)
+    (λ c. search needs)
     server-sound-requires
     returns
     (λ c κs. search needs)

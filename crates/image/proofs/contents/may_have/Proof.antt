@@ -8,4 +8,12 @@ returns : tie.Need-returns
 returns c = search (needs, has-length)
 
 pub may-have-spec : {M : Type 1} → statement M
-may-have-spec = tie.close (tie.spec (λ c κs. search needs) (λ c. search needs) returns)
+may-have-spec =
+    tie.close
+    (tie.spec
+    (λ c κs. search needs)
+    (λ c κs. search needs)
+    (λ c. search needs)
+    (λ c. search needs)
+    (λ c. search needs)
+    returns)

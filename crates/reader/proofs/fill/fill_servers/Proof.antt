@@ -23,7 +23,7 @@ body-of-requires c κs = search (needs, name-next)
 put-server-requires : tie.Need-put-server-requires Inv-loop μ-loop
 put-server-requires c κs = (
   search (needs, held),
-  (search (needs, filled-within), (search (needs, filled-empty), server-sized _ _ (c .body-of .ensures .1) (omega arith))),
+  (search (needs, filled-within), (search (needs, filled-empty), server-sized _ _ _ (c .before .body-of .ensures .1) (omega arith))),
 )
 
 loop-again : tie.Need-loop-again Inv-loop μ-loop
@@ -42,6 +42,7 @@ fill-servers-spec =
     loop-holds
     (λ c. search needs)
     body-of-requires
+    (λ c. search needs)
     put-server-requires
     (λ c. search needs)
     loop-again

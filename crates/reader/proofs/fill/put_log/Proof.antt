@@ -6,10 +6,10 @@ use Rattle.reader.proofs.fill.put_log.Statement.{statement}
 use Rattle.reader.proofs.fill.put_log.Tie as tie
 
 abbrev Inv-loop : tie.InvT-loop
-Inv-loop t₀ s b n k₀ t k = Logged t₀ t s b k
+Inv-loop t₀ s b wide n k₀ t k = Logged t₀ t s wide b k
 
 abbrev μ-loop : tie.MeasureT-loop
-μ-loop t₀ s b n k₀ t k = n - k
+μ-loop t₀ s b wide n k₀ t k = n - k
 
 loop-holds : tie.Need-loop-holds Inv-loop μ-loop
 loop-holds c = search (needs, log-none)
@@ -18,7 +18,14 @@ push-requires : tie.Need-push-requires Inv-loop μ-loop
 push-requires c κs = (search needs, (search needs, search (needs, log-room)))
 
 loop-again : tie.Need-loop-again Inv-loop μ-loop
-loop-again c = search (needs, log-more)
+loop-again c =
+    let pushed = c .before .before in
+    let baked = pushed .before in
+    let termed = baked .before in
+    let turn = termed .before .before in
+    let many = turn .before .before in
+    let start = many .before .before .before in
+    log-more _ _ _ _ _ _ _ (many .entries-in .ensures) (turn .before .loop .inv) _ _ _ (start .pre .1 .0) (turn .loop-test .taken) (termed .term-in .ensures) (baked .bake-in .ensures) (pushed .push .ensures)
 
 returns : tie.Need-returns Inv-loop μ-loop
 returns c = search (needs, log-all)
@@ -29,9 +36,9 @@ put-log-spec =
     (tie.spec
     Inv-loop
     μ-loop
-    (λ c. search needs)
+    (λ c κs. search needs)
     loop-holds
-    (λ c. search needs)
+    (λ c κs. search needs)
     (λ c κs. search needs)
     push-requires
     (λ c. search needs)
