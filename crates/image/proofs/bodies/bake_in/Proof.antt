@@ -18,7 +18,7 @@ add-word-2 : tie.Need-add-word-2
 add-word-2 c = omega (arith, wide-there _ _ _ (c .if1 .left) (c .before .before .pre))
 
 word-requires : tie.Need-word-requires
-word-requires c κs = search (needs, wide-there)
+word-requires c κs = omega (arith, wide-there _ _ _ (c .if1 .left) (c .before .before .pre))
 
 returns-2 : tie.Need-returns-2
 returns-2 c = search (needs, wide-bake)

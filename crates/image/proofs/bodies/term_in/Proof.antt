@@ -9,7 +9,7 @@ add-word : tie.Need-add-word
 add-word c = omega (arith, narrow-there _ _ _ (c .if1 .taken) (c .before .before .pre))
 
 word-requires : tie.Need-word-requires
-word-requires c κs = search (needs, narrow-there)
+word-requires c κs = omega (arith, narrow-there _ _ _ (c .if1 .taken) (c .before .before .pre))
 
 returns : tie.Need-returns
 returns c = search (needs, narrow-term)
