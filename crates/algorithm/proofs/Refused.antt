@@ -130,7 +130,7 @@ unfolding step refusals every
 step-each P t a none common own = go (eqb (first (refusals t a)) 0) refl
   where
     of : (rs : List Refusal) → EachHeld P rs → ((first rs ≡ 0 → ⊥) → P (given rs))
-    of rs each = given-each (λ x. (x.number ≡ 0 → ⊥) → P x) rs (λ n. absurd (n refl)) (each_map rs (λ x h _. h) each)
+    of rs each = given-each (λ x. (x.number ≡ 0 → ⊥) → P x) rs (λ n. absurd (n refl)) (each_map {P = P} {R = λ x. (x.number ≡ 0 → ⊥) → P x} rs (λ x h _. h) each)
 
     held : Dec (first (common_refusals t a) ≡ 0) → (first (common_refusals t a ++ own_refusals t (action_of a)) ≡ 0 → ⊥) → P (given (common_refusals t a ++ own_refusals t (action_of a)))
     held (yes e) =

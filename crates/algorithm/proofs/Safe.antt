@@ -70,6 +70,7 @@ module _ (n M R F : ℕ) where
 -- actions on logs and marks leave the rest as it is
 core-stays : {v v' : View} {ws : List Written} → LogMoves v v' ws → v'.core ≡ v.core
 core-stays none = refl
+core-stays (then {v = v} {ws = ws} (config _) o can more) = elim o [ ]
 core-stays (then (write i B) o can more) = core-stays more
 core-stays (then (fetch i j) o can more) = core-stays more
 core-stays (then (roll-back i j) o can more) = core-stays more

@@ -1,4 +1,6 @@
 // The vocabulary of the engine: roles, three counters that cannot stand for one another, and the reply to an action.
+#![tactic(auto)]
+
 ghost use Rattle.std.specs.Prelude.{◌≡◌, ltb, eqb};
 ghost use Rattle.words.specs.Words.{value_of};
 ghost use Rattle.algorithm.specs.Run.{answer_of, reply_bytes};

@@ -1,4 +1,6 @@
 // Sets of servers as masks: bit k stands for server k + 1.
+#![tactic(auto)]
+
 pub mod apart;
 pub mod sheet;
 

@@ -1,4 +1,6 @@
 // Numbers in a slice, of two bytes, of four (words) and of eight, the low byte first.
+#![tactic(auto)]
+
 ghost use Rattle.std.specs.Prelude.{◌≡◌, ◌+◌, ◌*◌, ◌≤◌, ◌<◌, length, get_or};
 ghost use Rattle.words.specs.Lists.{every, between, part};
 ghost use Rattle.words.specs.Words.{pair_of, half_at, word_of, words, Put, put_eight};

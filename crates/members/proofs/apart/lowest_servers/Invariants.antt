@@ -1,0 +1,16 @@
+-- `members::apart::lowest_servers` in turn: what its loop keeps, and what falls.
+use mathlib.Core.Path.{◌≡◌, refl}
+use Prim.Native.Nat.{◌-◌, ◌≤◌}
+use native.Mathlib.Omega.{arith}
+use borrow.Author.Rules.{rules}
+use Rattle.members.specs.Members.{mask}
+use Rattle.members.specs.Rules.{is_low, lowest_servers}
+use Rattle.members.proofs.Masks.{mask_lt}
+use Rattle.members.proofs.Lowest.{low-next}
+use Rattle.members.proofs.apart.lowest_servers.Given as goal
+
+abbrev pub invariant-loop-i : goal.invariant-loop-i
+invariant-loop-i l = (l.i ≤ 16) × (l.q ≡ lowest_servers l.i l.k l.m)
+
+abbrev pub decreases-loop-i : goal.decreases-loop-i
+decreases-loop-i l = 16 - l.i

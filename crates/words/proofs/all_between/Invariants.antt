@@ -1,0 +1,11 @@
+-- `words::all_between` in turn: what its loop keeps, and what falls.
+use Prim.Native.Nat.{◌-◌, ◌≤◌}
+use borrow.Author.Rules.{rules}
+use Rattle.words.proofs.PartLaws.{Tested, tested-none, tested-more, tested-all}
+use Rattle.words.proofs.all_between.Given as goal
+
+abbrev pub invariant-loop-i : goal.invariant-loop-i
+invariant-loop-i l = (l.i ≤ l.n) × Tested l.t l.k l.low l.high l.i l.ok
+
+abbrev pub decreases-loop-i : goal.decreases-loop-i
+decreases-loop-i l = l.n - l.i
