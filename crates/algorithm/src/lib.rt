@@ -11,15 +11,15 @@ pub const SECONDARY: u32 = 0;
 pub const PRIMARY: u32 = 1;
 
 // A term: of a server, of a configuration, of an entry, of a mark.
-#[derive(Drop)]
+#[derive(Clone, Copy)]
 pub struct Term(pub u32);
 
 // A version of a configuration.
-#[derive(Drop)]
+#[derive(Clone, Copy)]
 pub struct Version(pub u32);
 
 // A position in a log, from 1; a log's length is its last one.
-#[derive(Drop)]
+#[derive(Clone, Copy)]
 pub struct Position(pub u8);
 
 // The largest term and the largest version.
@@ -67,7 +67,7 @@ pub fn position_below(p: Position, q: Position) -> bool
 
 // The reply to an action: taken, with the number of entries where a stretch was copied; a refusal's number, for some with the server that
 // stands in the way; or, for refusal 13 where it shows them, a majority of the old set and one of the new without a common server.
-#[derive(Drop)]
+#[derive(Clone, Copy)]
 pub enum Reply {
     Taken,
     Copied(u8),

@@ -10,7 +10,7 @@ use members::is_within;
 use words::{half, word};
 
 // The nine actions, as documents 01 and 02 name them: server i, and behind it server j or the set; a write has its bake, a stretch j and its count.
-#[derive(Drop)]
+#[derive(Clone, Copy)]
 pub enum Asked {
     Elect(usize, u16),
     Reconfigure(usize, u16),
@@ -24,7 +24,7 @@ pub enum Asked {
 }
 
 // What the bytes say: an action, or the number of the refusal.
-#[derive(Drop)]
+#[derive(Clone, Copy)]
 pub enum Form {
     Asks(Asked),
     Refused(u8),
@@ -32,7 +32,7 @@ pub enum Form {
 
 // The bytes by their places: the two of the set are the first two of the bake, and no kind uses both; `stray` tells whether one of the zero bytes
 // is not 0.
-#[derive(Drop)]
+#[derive(Clone, Copy)]
 struct Fields {
     kind: u8,
     i: u8,

@@ -5,7 +5,7 @@ ghost use Rattle.members.specs.Rules.{all_meet, lowest_pair, lowest_servers};
 use super::with_next;
 
 // A majority of the old set and one of the new.
-#[derive(Drop)]
+#[derive(Clone, Copy)]
 pub struct Pair {
     pub old: u16,
     pub new: u16,

@@ -13,7 +13,7 @@ use members::with_next;
 use table::rows::count_of;
 
 // Those with its version and configuration term, and those with its term.
-#[derive(Drop)]
+#[derive(Clone, Copy)]
 pub struct Shares {
     pub config: u16,
     pub term: u16,

@@ -10,7 +10,7 @@ use members::with_next;
 use table::rows::count_of;
 
 // Those with a larger term, those with a newer configuration, those whose log is ahead.
-#[derive(Drop)]
+#[derive(Clone, Copy)]
 pub struct Objections {
     pub larger: u16,
     pub newer: u16,

@@ -33,14 +33,14 @@ pub const ROOM: usize = REPLIED * PIECES + CUT + TABLE;
 pub const IMAGE: usize = 8780;
 
 // An input is not played, and what is told of it is so long; or its actions begin at a place.
-#[derive(Drop)]
+#[derive(Clone, Copy)]
 pub(crate) enum Opened {
     Fault(usize),
     Site(usize),
 }
 
 // What the buffer has for which stream, and how long it is: an image for standard output, or words for standard error.
-#[derive(Drop)]
+#[derive(Clone, Copy)]
 pub enum Saved {
     Image(usize),
     Told(usize),

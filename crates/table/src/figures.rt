@@ -7,7 +7,7 @@ use algorithm::{CEILING, PRIMARY, SECONDARY, Term, Version};
 use members::is_within;
 
 // The set has the bits of a word: a slice is judged before it is known that no higher bit is set.
-#[derive(Drop)]
+#[derive(Clone, Copy)]
 pub struct Figures {
     pub role: u32,
     pub term: Term,

@@ -1,4 +1,6 @@
 // A table in a lent slice of 9,112 bytes, worked on in place: 17 rows of 134 words (specs/Layout.antt).
+#![tactic(auto)]
+
 use crate::rows::ROW;
 use algorithm::SERVERS;
 

@@ -9,7 +9,7 @@ use algorithm::{POSITIONS, Position, Term, Version};
 use words::{put, word};
 
 // A server's figures, and of its log the length and the last entry's term, 0 where it is empty.
-#[derive(Drop)]
+#[derive(Clone, Copy)]
 pub struct Row {
     pub figures: Figures,
     pub length: Position,

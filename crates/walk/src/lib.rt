@@ -6,14 +6,14 @@ ghost use Rattle.std.specs.Prelude.{◌≡◌};
 ghost use Rattle.walk.specs.Plan.{found_at, behind};
 
 // The list and the place in it together.
-#[derive(Drop)]
+#[derive(Clone, Copy)]
 pub struct Walk<'a> {
     pub actions: &'a [u8],
     pub at: usize,
 }
 
 // What stands at the place: a whole action of 8 bytes, fewer bytes, or nothing; with the place behind it.
-#[derive(Drop)]
+#[derive(Clone, Copy)]
 pub enum Found {
     Action(usize),
     Cut(usize),

@@ -11,8 +11,7 @@ use Rattle.table.specs.declared.rows.Row.{Row}
 use Rattle.table.specs.Layout.{row}
 use Rattle.table.specs.Slice.{seen}
 use Rattle.table.proofs.RowLaws.{last-read}
-use Rattle.table.proofs.rows.row_of.Statement.{statement}
-use Rattle.table.proofs.rows.row_of.Tie as tie
+use Rattle.table.proofs.rows.row_of.Goals as goal
 
 seen_by : (s : Server) (r m e : ℕ) (t c : Term) (v : Version) (l : Position) → r ≡ s.role → t.0 ≡ s.term → m ≡ s.config.set
     → v.0 ≡ s.config.version → c.0 ≡ s.config.term → l.0 ≡ length s.log → l.0 ≤ positions → e ≡ get_or (row s) (5 + l.0) 0
@@ -28,21 +27,5 @@ seen_by s r m e t c v l er et em ev ec el short ee =
       last = record { 0 = end d };
     }
 
-returns : tie.Need-returns
+pub returns : goal.returns
 returns c = (search seen_by, search rules)
-
-pub row-of-spec : {M : Type 1} → statement M
-row-of-spec =
-    tie.close
-    (tie.spec
-    (λ c κs. search rules)
-    (λ c κs. search rules)
-    (λ c κs. search rules)
-    (λ c κs. search rules)
-    (λ c. search rules)
-    (λ c κs. search rules)
-    (λ c κs. search rules)
-    (λ c. search rules)
-    (λ c. search rules)
-    (λ c κs. search rules)
-    returns)

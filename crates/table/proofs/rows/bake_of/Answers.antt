@@ -1,0 +1,7 @@
+-- `table::rows::bake_of` meets its contract. Assumes nothing.
+use borrow.Author.Rules.{rules}
+use Rattle.table.proofs.RowLaws.{bake-read}
+use Rattle.table.proofs.rows.bake_of.Goals as goal
+
+pub returns : goal.returns
+returns c = search bake-read

@@ -1,0 +1,6 @@
+-- `table::rows::last_of` meets its contract. Assumes nothing.
+use borrow.Author.Rules.{rules}
+use Rattle.table.proofs.rows.last_of.Goals as goal
+
+pub returns : goal.returns
+returns c = rw c.row_of.ensures.0

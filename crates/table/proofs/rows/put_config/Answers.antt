@@ -1,0 +1,7 @@
+-- `table::rows::put_config` meets its contract. Assumes nothing.
+use borrow.Author.Rules.{rules}
+use Rattle.table.proofs.RowLaws.{config-put}
+use Rattle.table.proofs.rows.put_config.Goals as goal
+
+pub returns : goal.returns
+returns c = search config-put
