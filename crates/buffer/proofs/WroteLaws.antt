@@ -2,7 +2,7 @@
 use Prim.Native.Nat.{ℕ, ◌+◌, ◌-◌, ◌≤◌, ◌<◌}
 use native.Mathlib.Numerals.{add-one}
 use native.Mathlib.Omega.{arith}
-use mathlib.Core.Path.{◌≡◌, ap, sym, ◌∙◌}
+use mathlib.Core.Path.{◌≡◌, refl, ap, sym, ◌∙◌}
 use mathlib.Core.List.{List, [], ◌∷◌, ◌++◌, append_assoc, append-nil}
 use lib.ListN.{length, take, drop, set, length-append, length-drop, take-append-drop}
 use lib.Seq.{length-take-le, take_all, take_at, drop-drop, drop-length, drop-append-add, set_split}
@@ -81,17 +81,10 @@ module _ (b : List ℕ) (at : ℕ) (h : at ≤ length b) where
         bytes = rw (none, append-nil ys, w.bytes, drop-drop r at b);
       }
 
--- a word copied to the start of a part
-pub copied : (b ys w : List ℕ) (at r : ℕ) → at + length w ≤ length b → r ≡ length w
-    → ys ≡ take (length w) w ++ drop (length w) (take (length b - at) (drop at b))
-    → Wrote b (take at b ++ (ys ++ drop (length b - at) (drop at b))) at w (at + r)
-copied b ys w at r h e f =
-    part-wrote b at (omega arith) ys w r
-    (record {
-      end = omega arith;
-      room = rw (part b at (omega arith)) (omega (arith, length-drop at b));
-      bytes = f ∙ rw (take_all (length w) w (omega arith), e);
-    })
+-- a word copied over a part as long as it is
+pub copied : (b ys w : List ℕ) (at k : ℕ) → at + length w ≤ length b → k ≡ length w → ys ≡ w
+    → Wrote b (take at b ++ (ys ++ drop k (drop at b))) at w (at + length w)
+copied b ys w at k h e f = record { end = refl; room = h; bytes = rw (f, e, drop-drop (length w) at b) }
 
 -- ---- what a caller that lends `&buffer[..e]` is asked for
 

@@ -1,8 +1,8 @@
 // What lines are made of, each put at a place of the buffer. Every function answers the place behind what it wrote.
+#![tactic(auto)]
+
 ghost use Rattle.std.specs.Prelude.{[], ◌∷◌, ◌+◌, ◌≤◌, ◌<◌, length};
 ghost use Rattle.buffer.specs.Buffer.{decimal, number_room, field, field_room, Wrote, WroteShort};
-
-use bytes::copy;
 
 pub fn put_byte(buffer: &mut [u8], at: usize, x: u8) -> usize
     requires { at < length buffer.old }
@@ -16,7 +16,8 @@ pub fn put_word(buffer: &mut [u8], at: usize, word: &[u8]) -> usize
     requires { at + length word.now ≤ length buffer.old }
     ensures { Wrote buffer.old buffer.new at word.now result }
 {
-    at + copy(word, &mut buffer[at..])
+    buffer[at..at + word.len()].copy_from_slice(word);
+    at + word.len()
 }
 
 fn put_digit(buffer: &mut [u8], at: usize, d: u32) -> usize

@@ -1,4 +1,6 @@
 // One server's role, and one server beside another: terms, configurations and logs.
+#![tactic(auto)]
+
 ghost use Rattle.std.specs.Prelude.{◌≡◌, not, ◌≤◌, eqb};
 ghost use Rattle.algorithm.specs.Table.{server, positions, later, held, prefix};
 ghost use Rattle.algorithm.specs.Actions.{larger_term, newer_config, log_ahead, same_config, same_term, supports_at, joins as joins_of};

@@ -1,4 +1,6 @@
 // An action read from its bytes, once: what is asked of a table of n servers, or why the bytes ask for nothing.
+#![tactic(auto)]
+
 ghost use Rattle.std.specs.Prelude.{◌≡◌, length};
 ghost use Rattle.algorithm.specs.Bytes.{bake_of, uses_set, set_fits, uses_j};
 ghost use Rattle.algorithm.specs.Run.{known};

@@ -1,4 +1,6 @@
 // Whether a slice is a whole table. The answers of the tests are joined without branches, as those of a loop over words are.
+#![tactic(auto)]
+
 ghost use Rattle.std.specs.Prelude.{◌≡◌, [], ◌*◌, ◌≤◌, length, drop};
 ghost use Rattle.algorithm.specs.Table.{with_log, sound_server, most_servers};
 ghost use Rattle.words.specs.Words.{words};

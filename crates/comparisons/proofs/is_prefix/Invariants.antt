@@ -1,0 +1,14 @@
+-- `comparisons::is_prefix` in turn: what its loop keeps, and what falls.
+use Prim.Native.Nat.{◌-◌, ◌≤◌}
+use borrow.Author.Rules.{rules}
+use Rattle.words.specs.Lists.{nth}
+use Rattle.algorithm.specs.Table.{server}
+use Rattle.table.specs.Layout.{table_in}
+use Rattle.comparisons.proofs.LogLaws.{PrefixFrom, prefix-long, prefix-none, prefix-next, prefix-all}
+use Rattle.comparisons.proofs.is_prefix.Given as goal
+
+abbrev pub invariant-loop-k : goal.invariant-loop-k
+invariant-loop-k l = (l.k ≤ l.n.0) × PrefixFrom l.k (server (table_in l.t) l.i).log (server (table_in l.t) l.j).log l.ok
+
+abbrev pub decreases-loop-k : goal.decreases-loop-k
+decreases-loop-k l = l.n.0 - l.k

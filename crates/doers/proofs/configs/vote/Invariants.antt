@@ -1,0 +1,13 @@
+-- `doers::configs::vote` in turn: what its loop keeps, and what falls.
+use Prim.Native.Nat.{◌-◌}
+use mathlib.Core.Path.{◌≡◌}
+use lib.ListN.{length}
+use borrow.Author.Rules.{rules}
+use Rattle.doers.proofs.VoteLaws.{Voted, voted-none, voted-more, voted-all}
+use Rattle.doers.proofs.configs.vote.Given as goal
+
+abbrev pub invariant-loop-k : goal.invariant-loop-k
+invariant-loop-k l = (length l.t ≡ length l.initial.t) × Voted l.initial.t l.q l.term.0 l.n l.t l.k
+
+abbrev pub decreases-loop-k : goal.decreases-loop-k
+decreases-loop-k l = l.n - l.k

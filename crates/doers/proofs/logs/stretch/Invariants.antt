@@ -1,0 +1,13 @@
+-- `doers::logs::stretch` in turn: what its loop keeps, and what falls.
+use Prim.Native.Nat.{◌-◌}
+use mathlib.Core.Path.{◌≡◌}
+use lib.ListN.{length}
+use borrow.Author.Rules.{rules}
+use Rattle.doers.proofs.StretchLaws.{not-shorter, Copying, copying-none, still-within, copying-room, copying-more, copying-count, copying-all}
+use Rattle.doers.proofs.logs.stretch.Given as goal
+
+abbrev pub invariant-loop-k : goal.invariant-loop-k
+invariant-loop-k l = (length l.t ≡ length l.initial.t) × Copying l.initial.t l.i l.j l.n l.t l.k
+
+abbrev pub decreases-loop-k : goal.decreases-loop-k
+decreases-loop-k l = l.n - l.k

@@ -1,0 +1,14 @@
+-- `image::contents::is_laid_out` in turn: what its loop keeps, and what falls.
+use Prim.Native.Nat.{◌+◌, ◌-◌, ◌≤◌}
+use mathlib.Core.Path.{◌≡◌}
+use borrow.Author.Rules.{rules}
+use Rattle.image.specs.Contents.{start, laid}
+use Rattle.words.proofs.BelowLaws.{Tested, tested-none, tested-more}
+use Rattle.image.proofs.ContentsLaws.{next_start, cut-contents, contents-tell}
+use Rattle.image.proofs.contents.is_laid_out.Given as goal
+
+abbrev pub invariant-loop-e : goal.invariant-loop-e
+invariant-loop-e l = (l.e ≤ l.n + 1) × (l.place ≡ start l.image l.e) × Tested (laid l.image) l.e l.ok
+
+abbrev pub decreases-loop-e : goal.decreases-loop-e
+decreases-loop-e l = l.n + 1 - l.e

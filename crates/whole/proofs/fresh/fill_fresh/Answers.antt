@@ -1,0 +1,12 @@
+-- `whole::fresh::fill_fresh` meets its contract. Assumes nothing.
+use borrow.Author.Rules.{rules}
+use Rattle.table.proofs.HeldLaws.{held}
+use Rattle.table.proofs.StoredLaws.{held-stored}
+use Rattle.whole.proofs.FreshLaws.{blank-servers, given-fresh}
+use Rattle.whole.proofs.fresh.fill_fresh.Goals as goal
+
+pub give_set-requires : goal.give_set-requires
+give_set-requires c = search (held, blank-servers)
+
+pub returns : goal.returns
+returns c = held-stored _ _ (λ i. (c.slice_known-3-1.given i).fits) (search given-fresh)

@@ -1,0 +1,15 @@
+-- `whole::rows_sound` meets its contract. Assumes nothing.
+use borrow.Author.Rules.{rules}
+use Prim.Native.Nat.{◌-◌, ◌≤◌}
+use Rattle.words.specs.Words.{words}
+use Rattle.whole.proofs.CheckLaws.{RowsTested, rows_none, rows_more, rows_all}
+use Rattle.whole.proofs.rows_sound.Goals as goal
+
+pub loop-k-init : goal.loop-k-init
+loop-k-init c = (search rules, rows_none _ _)
+
+pub loop-k-preserved : goal.loop-k-preserved
+loop-k-preserved c = (search rules, search rows_more)
+
+pub returns : goal.returns
+returns c = search rows_all

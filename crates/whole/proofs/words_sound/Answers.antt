@@ -1,0 +1,7 @@
+-- `whole::words_sound` meets its contract. Assumes nothing.
+use borrow.Author.Rules.{rules}
+use Rattle.whole.proofs.CheckLaws.{words-at}
+use Rattle.whole.proofs.words_sound.Goals as goal
+
+pub returns : goal.returns
+returns c = search words-at
