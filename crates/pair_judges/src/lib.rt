@@ -1,4 +1,6 @@
 // Send, spread, write, fetch and roll back: the kinds that look at one server or two.
+#![tactic(auto)]
+
 ghost use Rattle.std.specs.Prelude.{◌≡◌};
 ghost use Rattle.algorithm.specs.Actions.{send_refusals, spread_refusals, write_refusals, fetch_refusals, roll_back_refusals};
 ghost use Rattle.words.specs.Refusal.{given, holds_in};

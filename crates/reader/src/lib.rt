@@ -1,4 +1,6 @@
 // The reader of a table's image (specs/Image.antt): judged on the image alone, and only then is the slice written.
+#![tactic(auto)]
+
 ghost use Rattle.std.specs.Prelude.{◌≡◌};
 ghost use Rattle.reader.specs.Reader.{read_reply, read_end, ReadAnswer};
 ghost use Rattle.image.specs.Contents.{Named};

@@ -1,4 +1,6 @@
 // The lines that rehearse prints, each put at a place of a lent buffer. Every function answers the place behind its line.
+#![tactic(auto)]
+
 mod parts;
 
 ghost use Rattle.std.specs.Prelude.{◌≡◌, ◌+◌, ◌*◌, ◌≤◌, length};

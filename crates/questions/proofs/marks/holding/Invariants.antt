@@ -1,0 +1,13 @@
+-- `questions::marks::holding` in turn: what its loop keeps, and what falls.
+use Prim.Native.Nat.{◌-◌, ◌*◌, ◌≤◌}
+use borrow.Author.Rules.{rules}
+use Rattle.algorithm.specs.Table.{server}
+use Rattle.table.specs.Layout.{table_in}
+use Rattle.questions.proofs.MarkLaws.{Holding, holding-none, holding-eight, holding-all}
+use Rattle.questions.proofs.marks.holding.Given as goal
+
+abbrev pub invariant-loop-k : goal.invariant-loop-k
+invariant-loop-k l = (l.k ≤ 8) × Holding (table_in l.t) l.i (server (table_in l.t) l.i).config.set (8 * l.k) l.m
+
+abbrev pub decreases-loop-k : goal.decreases-loop-k
+decreases-loop-k l = 8 - l.k

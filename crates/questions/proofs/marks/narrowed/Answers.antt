@@ -1,0 +1,20 @@
+-- `questions::marks::narrowed` meets its contract. The loop's invariant: m is narrowed at the first k positions. Assumes nothing.
+use Prim.Native.Nat.{◌-◌, ◌≤◌}
+use mathlib.Core.Path.{◌≡◌}
+use borrow.Author.Rules.{rules}
+use Rattle.table.specs.Layout.{table_in}
+use Rattle.questions.specs.Questions.{narrowed_past}
+use Rattle.questions.proofs.MarkLaws.{past-unmarked, past-none, past_next, past_all}
+use Rattle.questions.proofs.marks.narrowed.Goals as goal
+
+pub returns-then-not-is_marked : goal.returns-then-not-is_marked
+returns-then-not-is_marked c = search (rules, past-unmarked)
+
+pub loop-k-init : goal.loop-k-init
+loop-k-init c = search (rules, past-none)
+
+pub loop-k-preserved : goal.loop-k-preserved
+loop-k-preserved c = search (rules, past_next)
+
+pub returns : goal.returns
+returns c = search (rules, past_all)

@@ -1,0 +1,17 @@
+-- `questions::shares::sharing` meets its contract. The loop's invariant: o has those of the servers 1 to k. Assumes nothing.
+use Prim.Native.Nat.{◌-◌}
+use borrow.Author.Rules.{rules}
+use Rattle.algorithm.specs.Table.{count}
+use Rattle.table.specs.Layout.{table_in}
+use Rattle.questions.specs.Questions.{alike}
+use Rattle.questions.proofs.LoopLaws.{Turned, alike-none, alike_all}
+use Rattle.questions.proofs.shares.sharing.Goals as goal
+
+pub loop-k-init : goal.loop-k-init
+loop-k-init c = search (rules, alike-none)
+
+pub compare-o-requires-clause-o_value : goal.compare-o-requires-clause-o_value
+compare-o-requires-clause-o_value c = c.loop-k.invariant.is
+
+pub returns : goal.returns
+returns c = search (rules, alike_all)

@@ -1,0 +1,25 @@
+-- `questions::shares::supporters` meets its contract. The loop's invariant: m has those of the servers 1 to k. Assumes nothing.
+use Prim.Native.Nat.{◌-◌}
+use borrow.Author.Rules.{rules}
+use Rattle.members.specs.Members.{passing}
+use Rattle.algorithm.specs.Table.{count}
+use Rattle.algorithm.specs.Actions.{supports_at}
+use Rattle.table.specs.Layout.{table_in}
+use Rattle.questions.proofs.LoopLaws.{Turned, passing-none, passing-fits, passing-next, passing-all}
+use Rattle.questions.proofs.shares.supporters.Goals as goal
+
+pub loop-k-init : goal.loop-k-init
+loop-k-init c = search (rules, passing-none)
+
+pub with_next-m-requires : goal.with_next-m-requires
+with_next-m-requires c = search (rules, passing-fits)
+
+pub loop-k-preserved : goal.loop-k-preserved
+loop-k-preserved c = record {
+      most = search rules;
+      all = search rules;
+      is = passing-next _ _ _ _ _ _ c.loop-k.invariant.is c.member_supports.ensures c.with_next-m.ensures;
+    }
+
+pub returns : goal.returns
+returns c = search (rules, passing-all)

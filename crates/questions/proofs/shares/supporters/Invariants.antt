@@ -1,0 +1,15 @@
+-- `questions::shares::supporters` in turn: what its loop keeps, and what falls.
+use Prim.Native.Nat.{◌-◌}
+use borrow.Author.Rules.{rules}
+use Rattle.members.specs.Members.{passing}
+use Rattle.algorithm.specs.Table.{count}
+use Rattle.algorithm.specs.Actions.{supports_at}
+use Rattle.table.specs.Layout.{table_in}
+use Rattle.questions.proofs.LoopLaws.{Turned, passing-none, passing-fits, passing-next, passing-all}
+use Rattle.questions.proofs.shares.supporters.Given as goal
+
+abbrev pub invariant-loop-k : goal.invariant-loop-k
+invariant-loop-k l = Turned (λ k. passing k (supports_at (table_in l.t) l.i l.p.0) l.q) (count (table_in l.t)) l.n l.k l.m
+
+abbrev pub decreases-loop-k : goal.decreases-loop-k
+decreases-loop-k l = l.n - l.k

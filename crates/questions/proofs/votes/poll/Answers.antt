@@ -1,0 +1,17 @@
+-- `questions::votes::poll` meets its contract. The loop's invariant: o has those of the servers 1 to k. Assumes nothing.
+use Prim.Native.Nat.{◌-◌}
+use borrow.Author.Rules.{rules}
+use Rattle.algorithm.specs.Table.{count}
+use Rattle.table.specs.Layout.{table_in}
+use Rattle.questions.specs.Questions.{objecting}
+use Rattle.questions.proofs.LoopLaws.{Turned, objecting-none, objecting-all}
+use Rattle.questions.proofs.votes.poll.Goals as goal
+
+pub loop-k-init : goal.loop-k-init
+loop-k-init c = search (rules, objecting-none)
+
+pub hear-o-requires-clause-o_value : goal.hear-o-requires-clause-o_value
+hear-o-requires-clause-o_value c = c.loop-k.invariant.is
+
+pub returns : goal.returns
+returns c = search (rules, objecting-all)

@@ -1,0 +1,11 @@
+-- `reader::fill::put_log` in turn: what its loop keeps, and what falls.
+use borrow.Author.Rules.{rules}
+use Prim.Native.Nat.{◌-◌}
+use Rattle.reader.proofs.FillLaws.{Logged, log-none, log-room, log-more, log-all}
+use Rattle.reader.proofs.fill.put_log.Given as goal
+
+abbrev pub invariant-loop-k : goal.invariant-loop-k
+invariant-loop-k l = Logged l.initial.t l.t l.s l.width l.b l.k
+
+abbrev pub decreases-loop-k : goal.decreases-loop-k
+decreases-loop-k l = l.n - l.k

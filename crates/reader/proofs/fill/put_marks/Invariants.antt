@@ -1,0 +1,11 @@
+-- `reader::fill::put_marks` in turn: what its loop keeps, and what falls.
+use borrow.Author.Rules.{rules}
+use Prim.Native.Nat.{◌-◌}
+use Rattle.reader.proofs.FillLaws.{Marking, marks-none, marks-more, marks-all}
+use Rattle.reader.proofs.fill.put_marks.Given as goal
+
+abbrev pub invariant-loop-k : goal.invariant-loop-k
+invariant-loop-k l = Marking l.initial.t l.t l.b l.k
+
+abbrev pub decreases-loop-k : goal.decreases-loop-k
+decreases-loop-k l = l.n - l.k
