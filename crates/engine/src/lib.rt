@@ -1,4 +1,6 @@
 // One action on a table that is whole, and a plan of them.
+#![tactic(auto)]
+
 ghost use Rattle.engine.specs.Engine.{Ready, Fitting, Answered, Stepped, Played, AllRefused};
 
 use crate::act::act;

@@ -1,4 +1,6 @@
 // The engine for the store's release harness: numbers and byte slices in, a number and filled slices out (include/kyntulei.h).
+#![tactic(auto)]
+
 ghost use Rattle.std.specs.Prelude.{◌≡◌};
 ghost use Rattle.table.specs.Layout.{table_bytes};
 ghost use Rattle.reader.specs.Reader.{ReadAnswer};

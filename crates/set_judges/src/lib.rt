@@ -1,4 +1,6 @@
 // Elect, reconfigure and commit: the kinds that look at the servers of a set.
+#![tactic(auto)]
+
 ghost use Rattle.std.specs.Prelude.{◌≡◌, true, false, eqb, ◌++◌, ◌<◌};
 ghost use Rattle.members.specs.Members.{within, majority, passing};
 ghost use Rattle.members.specs.Rules.{may_follow, below_floor};

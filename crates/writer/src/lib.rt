@@ -1,5 +1,7 @@
 // The writer of a table's image (image/specs/Image.antt): nothing is written before the table is known to be whole and the buffer to be long
 // enough.
+#![tactic(auto)]
+
 ghost use Rattle.std.specs.Prelude.{◌≡◌, ◌+◌, ◌*◌, ◌≤◌, length};
 ghost use mathlib.Core.List.{flatten};
 ghost use Rattle.algorithm.specs.Table.{count};

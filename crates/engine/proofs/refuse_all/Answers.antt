@@ -1,0 +1,17 @@
+-- `engine::refuse_all` meets its contract. The invariant: the first k replies are 1. Assumes nothing.
+use Prim.Native.Nat.{◌-◌, ◌≤◌}
+use mathlib.Core.Path.{◌≡◌}
+use lib.ListN.{length}
+use borrow.Author.Rules.{rules}
+use Rattle.engine.specs.Engine.{played}
+use Rattle.engine.proofs.RunLaws.{Ones, ones_none, ones-more, ones-all}
+use Rattle.engine.proofs.refuse_all.Goals as goal
+
+pub loop-k-init : goal.loop-k-init
+loop-k-init c = (search rules, search rules, search rules, search (rules, ones_none))
+
+pub loop-k-preserved : goal.loop-k-preserved
+loop-k-preserved c = (search rules, search rules, search rules, search (rules, ones-more))
+
+pub returns : goal.returns
+returns c = search (rules, ones-all)

@@ -1,0 +1,14 @@
+-- `engine::refuse_all` in turn: what its loop keeps, and what falls.
+use Prim.Native.Nat.{◌-◌, ◌≤◌}
+use mathlib.Core.Path.{◌≡◌}
+use lib.ListN.{length}
+use borrow.Author.Rules.{rules}
+use Rattle.engine.specs.Engine.{played}
+use Rattle.engine.proofs.RunLaws.{Ones, ones_none, ones-more, ones-all}
+use Rattle.engine.proofs.refuse_all.Given as goal
+
+abbrev pub invariant-loop-k : goal.invariant-loop-k
+invariant-loop-k l = (length l.replies ≡ length l.initial.replies) × (l.n ≡ played l.actions l.initial.replies) × (l.k ≤ l.n) × Ones l.initial.replies l.replies l.k
+
+abbrev pub decreases-loop-k : goal.decreases-loop-k
+decreases-loop-k l = l.n - l.k

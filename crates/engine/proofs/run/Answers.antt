@@ -1,0 +1,29 @@
+-- `engine::run` meets its contract. The invariant: k pieces are played, and answered. Assumes nothing.
+use Prim.Native.Nat.{◌-◌, ◌≤◌}
+use mathlib.Core.Path.{◌≡◌}
+use lib.ListN.{length}
+use borrow.Author.Rules.{rules}
+use Rattle.engine.specs.Engine.{played}
+use Rattle.engine.proofs.RunLaws.{Ran, ran-none, fewer-left, piece-starts, piece-ends, ran-more, Replied, replied-none, replied-more, ran-all}
+use Rattle.engine.proofs.run.Goals as goal
+
+pub loop-k-init : goal.loop-k-init
+loop-k-init c = (search rules, search rules, search rules, search rules, search (rules, ran-none), search (rules, replied-none))
+
+pub slice_bounds-step-count : goal.slice_bounds-step-count
+slice_bounds-step-count c = search (rules, piece-starts)
+
+pub slice_bounds-step-start : goal.slice_bounds-step-start
+slice_bounds-step-start c = search (rules, piece-starts)
+
+pub slice_bounds-step-end : goal.slice_bounds-step-end
+slice_bounds-step-end c = search (rules, piece-ends)
+
+pub loop-k-smaller : goal.loop-k-smaller
+loop-k-smaller c = search (rules, fewer-left)
+
+pub loop-k-preserved : goal.loop-k-preserved
+loop-k-preserved c = (search rules, search rules, search rules, search rules, search (rules, ran-more), search (rules, replied-more))
+
+pub returns : goal.returns
+returns c = search (rules, ran-all)

@@ -1,0 +1,14 @@
+-- `engine::run` in turn: what its loop keeps, and what falls.
+use Prim.Native.Nat.{◌-◌, ◌≤◌}
+use mathlib.Core.Path.{◌≡◌}
+use lib.ListN.{length}
+use borrow.Author.Rules.{rules}
+use Rattle.engine.specs.Engine.{played}
+use Rattle.engine.proofs.RunLaws.{Ran, ran-none, fewer-left, piece-starts, piece-ends, ran-more, Replied, replied-none, replied-more, ran-all}
+use Rattle.engine.proofs.run.Given as goal
+
+abbrev pub invariant-loop-k : goal.invariant-loop-k
+invariant-loop-k l = (length l.t ≡ length l.initial.t) × (length l.replies ≡ length l.initial.replies) × (l.n ≡ played l.actions l.initial.replies) × (l.k ≤ l.n) × Ran l.initial.t l.actions l.t l.at l.k × Replied l.initial.t l.actions l.initial.replies l.replies l.k
+
+abbrev pub decreases-loop-k : goal.decreases-loop-k
+decreases-loop-k l = l.n - l.k

@@ -1,0 +1,17 @@
+-- `rehearsal::put_replies` meets its contract. The invariant: the lines of the first k replies are put. Assumes nothing.
+use Prim.Native.Nat.{◌-◌, ◌≤◌}
+use borrow.Author.Rules.{rules}
+use Rattle.algorithm.specs.Run.{answers_in}
+use Rattle.report.specs.Lines.{replied_line, replied_room}
+use Rattle.report.proofs.OrderLaws.{Lined, lined-none}
+use Rattle.rehearsal.proofs.PlayedLaws.{replies-more, replies-all}
+use Rattle.rehearsal.proofs.put_replies.Goals as goal
+
+pub loop-k-init : goal.loop-k-init
+loop-k-init c = (search rules, lined-none _ _ _ _ _ (search rules))
+
+pub loop-k-preserved : goal.loop-k-preserved
+loop-k-preserved c = (search rules, search (rules, replies-more))
+
+pub returns : goal.returns
+returns c = search (rules, replies-all)

@@ -1,0 +1,14 @@
+-- `rehearsal::put_replies` in turn: what its loop keeps, and what falls.
+use Prim.Native.Nat.{◌-◌, ◌≤◌}
+use borrow.Author.Rules.{rules}
+use Rattle.algorithm.specs.Run.{answers_in}
+use Rattle.report.specs.Lines.{replied_line, replied_room}
+use Rattle.report.proofs.OrderLaws.{Lined, lined-none}
+use Rattle.rehearsal.proofs.PlayedLaws.{replies-more, replies-all}
+use Rattle.rehearsal.proofs.put_replies.Given as goal
+
+abbrev pub invariant-loop-k : goal.invariant-loop-k
+invariant-loop-k l = (l.k ≤ l.n) × Lined replied_room replied_line (answers_in l.n l.replies) l.initial.buffer l.from l.buffer l.k l.end
+
+abbrev pub decreases-loop-k : goal.decreases-loop-k
+decreases-loop-k l = l.n - l.k

@@ -1,0 +1,13 @@
+-- `writer::bodies::put_entries` in turn: what its loop keeps, and what falls.
+use Prim.Native.Nat.{◌-◌}
+use borrow.Author.Rules.{rules}
+use Rattle.algorithm.specs.Table.{server}
+use Rattle.table.specs.Layout.{table_in}
+use Rattle.writer.proofs.BodyWriteLaws.{Paired, paired_none, paired-more, paired-all}
+use Rattle.writer.proofs.bodies.put_entries.Given as goal
+
+abbrev pub invariant-loop-p : goal.invariant-loop-p
+invariant-loop-p l = Paired (server (table_in l.t) l.s).log l.initial.part l.from l.part l.p l.end
+
+abbrev pub decreases-loop-p : goal.decreases-loop-p
+decreases-loop-p l = l.n - l.p

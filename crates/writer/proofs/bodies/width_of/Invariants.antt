@@ -1,0 +1,12 @@
+-- `writer::bodies::width_of` in turn: what its loop keeps, and what falls.
+use Prim.Native.Nat.{◌-◌}
+use borrow.Author.Rules.{rules}
+use Rattle.table.specs.Layout.{table_in}
+use Rattle.writer.proofs.RowWords.{Bare, bare-none, bare-more, all-bare, some-baked}
+use Rattle.writer.proofs.bodies.width_of.Given as goal
+
+abbrev pub invariant-loop-s : goal.invariant-loop-s
+invariant-loop-s l = Bare (table_in l.t) l.s l.unbaked
+
+abbrev pub decreases-loop-s : goal.decreases-loop-s
+decreases-loop-s l = l.n - l.s

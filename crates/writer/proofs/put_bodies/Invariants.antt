@@ -1,0 +1,13 @@
+-- `writer::put_bodies` in turn: what its loop keeps, and what falls.
+use Prim.Native.Nat.{◌+◌, ◌-◌, ◌≤◌}
+use borrow.Author.Rules.{rules}
+use Rattle.algorithm.specs.Table.{most_servers}
+use Rattle.table.specs.Layout.{table_in}
+use Rattle.writer.proofs.PlaceLaws.{Bodied, few-servers, bodied-none, body-start, body-room, bodied-more, bodied-all}
+use Rattle.writer.proofs.put_bodies.Given as goal
+
+abbrev pub invariant-loop-e : goal.invariant-loop-e
+invariant-loop-e l = (l.e ≤ l.n + 1) × (l.n ≤ most_servers) × Bodied (table_in l.t) l.initial.buffer l.from l.buffer l.e l.at
+
+abbrev pub decreases-loop-e : goal.decreases-loop-e
+decreases-loop-e l = l.n + 1 - l.e
