@@ -1,19 +1,19 @@
 // Plays a plan as rehearse does, and writes the image of the table that is left to standard output: a plan appended to it goes on next day. An
 // input that is not played is told on standard error, in rehearse's words. What is written to each is one proved function of the input.
-use libc::{STDERR_FILENO, STDIN_FILENO, STDOUT_FILENO};
+#![tactic(auto)]
+
+use buffer::read_full;
 use rehearsal::{IMAGE, MOST, Saved, save};
+use std::io;
+use std::io::Write;
 
 // One byte more than is allowed is read, so that a longer input is seen to be longer.
-fn main() {
+fn main(rt: HostRuntime) -> io::Result<()> {
     let mut input = [0u8; MOST + 1];
     let mut buffer = [0u8; IMAGE];
-    let n = io::read_full(STDIN_FILENO, &mut input);
+    let n = read_full(&mut rt.stdin(), &mut input)?;
     match save(&input[..n], &mut buffer) {
-        Saved::Image(end) => {
-            io::write_all(STDOUT_FILENO, &buffer[..end]);
-        }
-        Saved::Told(end) => {
-            io::write_all(STDERR_FILENO, &buffer[..end]);
-        }
+        Saved::Image(end) => rt.stdout().write_all(&buffer[..end]),
+        Saved::Told(end) => rt.stderr().write_all(&buffer[..end]),
     }
 }
