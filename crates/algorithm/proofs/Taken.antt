@@ -14,7 +14,7 @@ use Rattle.words.proofs.Tests.{Passes, both, together, either, neither, refuted,
 use Rattle.members.proofs.Majorities.{majority-is, may-follow, most-map, none_passes, most-pass}
 use Rattle.words.specs.Lists.{nth, put}
 use Rattle.words.specs.Refusal.{refuse}
-use Rattle.algorithm.specs.Table.{Log, Server, Table, count, server, entry_of, entry_at, mark, with_config, with_entry, with_log, positions, newer, last, held, prefix, primary}
+use Rattle.algorithm.specs.Table.{Log, Server, Table, count, server, entry_of, entry_at, mark, with_config, with_entry, with_log, positions, newer, last, held, prefix}
 use Rattle.algorithm.specs.Bytes.{Action, elect, reconfigure, commit, send, spread, fetch, roll_back, write, unknown, action_of, stretch}
 use Rattle.algorithm.specs.Actions.{stepped_down, voted, winner, elect_after, some_marked, holds_marked, p1, marked_otherwise, next_config, reconfigure_after, send_after, spread_after, write_after, fetch_after, roll_back_after, entry_refusals, commit_after, fetch_refusals, fetches}
 use Rattle.algorithm.specs.Run.{known, after, step, wins, brought_by, Written, writes}

@@ -1,5 +1,5 @@
 -- The table: its figures, its rules, a fresh one, and how configurations and logs compare. (What a majority is stands in `members`.) Assumes nothing.
-use Rattle.std.specs.Prelude.{ℕ, zero, suc, ◌-◌, Bool, not, ◌||◌, ◌&&◌, true, false, List, [], ◌∷◌, ◌++◌, map, leb, eqb, ltb, length, set, take, replicate}
+use Rattle.std.specs.Prelude.{ℕ, zero, suc, ◌-◌, Bool, not, ◌||◌, ◌&&◌, true, false, List, [], ◌∷◌, ◌++◌, map, leb, eqb, ltb, length, take, replicate}
 use Rattle.words.specs.Lists.{nth, replace, every, between}
 use Rattle.members.specs.Members.{within}
 

@@ -19,7 +19,7 @@ use Rattle.members.proofs.Masks.{member-pos}
 use Rattle.members.proofs.Majorities.{majority-is, is-majority, all-meet, one-apart, most-map, none_passes, most-pass, pass-most}
 use Rattle.members.proofs.Pairs.{meet_all}
 use Rattle.members.proofs.Meaning.{within-is}
-use Rattle.algorithm.specs.Table.{Log, Server, Table, count, server, term_at, positions, last, prefix, mark, ceiling, held}
+use Rattle.algorithm.specs.Table.{Log, Server, Table, count, server, term_at, positions, last, prefix, mark, ceiling}
 use Rattle.algorithm.specs.Actions.{send_refusals, spread_refusals, write_refusals, joins, fetch_refusals, roll_back_refusals, larger_term, newer_config, log_ahead, elect_refusals, same_config, same_term, some_marked, holds_committed, reconfigure_refusals, opposes_at, commit_refusals, entry_refusals, marked_otherwise, lacks_entry}
 use Rattle.algorithm.specs.Run.{known}
 use Rattle.algorithm.proofs.Sound.{SoundTable, here-sound, SoundServer}

@@ -13,7 +13,7 @@ use Rattle.words.specs.Refusal.{Refusal, first}
 use Rattle.words.proofs.Tests.{Passes, Fails, both, together, either, first_of, second-of, fails, equal, less, at_most, is-equal, is-less, contradiction, fails-false}
 use Rattle.words.proofs.Lists.{every-nth}
 use Rattle.words.proofs.RefusalLaws.{NoneHold, one_more}
-use Rattle.members.specs.Members.{within, some_pass}
+use Rattle.members.specs.Members.{some_pass}
 use Rattle.members.proofs.Said.{All}
 use Rattle.members.proofs.Majorities.{some-passes}
 use Rattle.algorithm.specs.Table.{Entry, no_entry, Log, Server, primary, secondary, term_at, sound_entry, later, last, prefix, Table, server, mark, held}

@@ -8,7 +8,7 @@ use native.Mathlib.Decide.{ℕ_discrete}
 use native.Mathlib.Omega.{arith}
 use lib.Dec.{T}
 use lib.ListN.{length}
-use Rattle.paper.specs.Paper.{Set, ◌∈◌, State, IsServer, OfServers, Quorums, at, IsCommitted, CommittedAt, Q1, Q2, P1a, P1b, P1, Same, Sets, SetsAll, SetsApart, SameRoles, SameConfigs, SameCommitted, Action, Reconfig, BecomeLeader, CommitEntry, SendConfig, UpdateTerms, GetEntries, RollbackEntries, ClientRequest, Requires, Assigns, Step}
+use Rattle.paper.specs.Paper.{Set, ◌∈◌, State, IsServer, OfServers, Quorums, IsCommitted, CommittedAt, Q1, Q2, P1a, P1b, P1, Same, Sets, SetsAll, SetsApart, SameRoles, SameConfigs, SameCommitted, Action, Reconfig, BecomeLeader, CommitEntry, SendConfig, UpdateTerms, GetEntries, RollbackEntries, ClientRequest, Requires, Assigns, Step}
 use Rattle.paper.specs.Narrowings.{SingleChange, Narrowed}
 use Rattle.paper.specs.Runs.{Named, OnServers, AlikeAt, Alike}
 

@@ -17,7 +17,6 @@ use Rattle.algorithm.specs.Cases.{action_bytes}
 use Rattle.algorithm.specs.Run.{known, step, form_refusals}
 use Rattle.algorithm.proofs.Seen.{within-width}
 use Rattle.algorithm.proofs.Sound.{table-sound, here-sound}
-use Rattle.algorithm.specs.Bytes as house
 use Rattle.paper.specs.Paper.{Set, ◌∈◌, State, IsServer, OfServers, Quorums, Action, Reconfig, BecomeLeader, CommitEntry, SendConfig, UpdateTerms, GetEntries, RollbackEntries, ClientRequest, Requires, Step}
 use Rattle.paper.specs.Narrowings.{Narrowed}
 use Rattle.paper.specs.Runs.{OnServers, Alike}

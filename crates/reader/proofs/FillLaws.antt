@@ -14,7 +14,7 @@ use Rattle.table.specs.Slice.{figures_of, figured, Holds, Held, Became, Within, 
 use Rattle.table.specs.declared.figures.Figures.{Figures}
 use Rattle.table.specs.Layout.{padded, table_in}
 use Rattle.words.proofs.Lists.{replace-nth, nth-replaced}
-use Rattle.table.proofs.HeldLaws.{its-table, held, again}
+use Rattle.table.proofs.HeldLaws.{its-table, again}
 use Rattle.image.specs.Contents.{count_in, wide_in, rule_in, floor_in, body, marks_in, server_in, Names, Named, Sized}
 use Rattle.image.proofs.LogLaws.{log-short}
 use Rattle.reader.specs.Reader.{servers_to, read_table, unread}

@@ -3,7 +3,7 @@ use Prim.Native.Nat.{ℕ, zero, suc, ◌+◌, ◌*◌, ◌%◌, ◌≤◌, ◌<�
 use native.Mathlib.Omega.{arith}
 use mathlib.Core.Path.{◌≡◌, refl, ap, sym, subst, ◌∙◌}
 use mathlib.Core.Bool.{false, ◌&&◌}
-use mathlib.Core.List.{List, [], ◌∷◌, ◌++◌, flatten}
+use mathlib.Core.List.{List, ◌++◌, flatten}
 use lib.Dec.{leb, eqb}
 use lib.ListN.{length, get_or, take, length-append, get_or-map}
 use lib.Seq.{take-suc, take-length, take_all}

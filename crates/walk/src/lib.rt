@@ -20,10 +20,10 @@ pub enum Found {
     End,
 }
 
-pub fn found_at(actions: &[u8], at: usize) -> Found
-    ensures { result ≡ found_at actions.now at }
+pub fn found_at(list: &[u8], at: usize) -> Found
+    ensures { result ≡ found_at list.now at }
 {
-    let n = actions.len();
+    let n = list.len();
     if n <= at {
         return Found::End;
     }
@@ -35,10 +35,10 @@ pub fn found_at(actions: &[u8], at: usize) -> Found
 }
 
 // At the end there is nothing to pass, and the place stays.
-fn end_at(actions: &[u8], at: usize) -> usize
-    ensures { result ≡ behind actions.now at }
+fn end_at(list: &[u8], at: usize) -> usize
+    ensures { result ≡ behind list.now at }
 {
-    match found_at(actions, at) {
+    match found_at(list, at) {
         Found::Action(end) => end,
         Found::Cut(end) => end,
         Found::End => at,

@@ -1,11 +1,8 @@
 -- `comparisons::is_prefix` meets its contract. The loop's invariant: the logs agree up to k if `ok`, and what follows decides the rest.
 -- Assumes nothing.
-use Prim.Native.Nat.{◌-◌, ◌≤◌}
 use borrow.Author.Rules.{rules}
 use Rattle.words.specs.Lists.{nth}
-use Rattle.algorithm.specs.Table.{server}
-use Rattle.table.specs.Layout.{table_in}
-use Rattle.comparisons.proofs.LogLaws.{PrefixFrom, prefix-long, prefix-none, prefix-next, prefix-all}
+use Rattle.comparisons.proofs.LogLaws.{prefix-long, prefix-none, prefix-next, prefix-all}
 use Rattle.comparisons.proofs.is_prefix.Goals as goal
 
 pub returns-then-position_below : goal.returns-then-position_below

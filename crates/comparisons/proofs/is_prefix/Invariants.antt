@@ -1,10 +1,8 @@
 -- `comparisons::is_prefix` in turn: what its loop keeps, and what falls.
 use Prim.Native.Nat.{◌-◌, ◌≤◌}
-use borrow.Author.Rules.{rules}
-use Rattle.words.specs.Lists.{nth}
 use Rattle.algorithm.specs.Table.{server}
 use Rattle.table.specs.Layout.{table_in}
-use Rattle.comparisons.proofs.LogLaws.{PrefixFrom, prefix-long, prefix-none, prefix-next, prefix-all}
+use Rattle.comparisons.proofs.LogLaws.{PrefixFrom}
 use Rattle.comparisons.proofs.is_prefix.Given as goal
 
 abbrev pub invariant-loop-k : goal.invariant-loop-k

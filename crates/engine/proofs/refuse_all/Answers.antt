@@ -1,10 +1,6 @@
 -- `engine::refuse_all` meets its contract. The invariant: the first k replies are 1. Assumes nothing.
-use Prim.Native.Nat.{◌-◌, ◌≤◌}
-use mathlib.Core.Path.{◌≡◌}
-use lib.ListN.{length}
 use borrow.Author.Rules.{rules}
-use Rattle.engine.specs.Engine.{played}
-use Rattle.engine.proofs.RunLaws.{Ones, ones_none, ones-more, ones-all}
+use Rattle.engine.proofs.RunLaws.{ones_none, ones-more, ones-all}
 use Rattle.engine.proofs.refuse_all.Goals as goal
 
 pub loop-k-init : goal.loop-k-init

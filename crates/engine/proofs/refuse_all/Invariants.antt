@@ -2,9 +2,8 @@
 use Prim.Native.Nat.{◌-◌, ◌≤◌}
 use mathlib.Core.Path.{◌≡◌}
 use lib.ListN.{length}
-use borrow.Author.Rules.{rules}
 use Rattle.engine.specs.Engine.{played}
-use Rattle.engine.proofs.RunLaws.{Ones, ones_none, ones-more, ones-all}
+use Rattle.engine.proofs.RunLaws.{Ones}
 use Rattle.engine.proofs.refuse_all.Given as goal
 
 abbrev pub invariant-loop-k : goal.invariant-loop-k

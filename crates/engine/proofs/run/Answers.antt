@@ -1,10 +1,6 @@
 -- `engine::run` meets its contract. The invariant: k pieces are played, and answered. Assumes nothing.
-use Prim.Native.Nat.{◌-◌, ◌≤◌}
-use mathlib.Core.Path.{◌≡◌}
-use lib.ListN.{length}
 use borrow.Author.Rules.{rules}
-use Rattle.engine.specs.Engine.{played}
-use Rattle.engine.proofs.RunLaws.{Ran, ran-none, fewer-left, piece-starts, piece-ends, ran-more, Replied, replied-none, replied-more, ran-all}
+use Rattle.engine.proofs.RunLaws.{ran-none, fewer-left, piece-starts, piece-ends, ran-more, replied-none, replied-more, ran-all}
 use Rattle.engine.proofs.run.Goals as goal
 
 pub loop-k-init : goal.loop-k-init

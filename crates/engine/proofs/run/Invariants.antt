@@ -2,9 +2,8 @@
 use Prim.Native.Nat.{◌-◌, ◌≤◌}
 use mathlib.Core.Path.{◌≡◌}
 use lib.ListN.{length}
-use borrow.Author.Rules.{rules}
 use Rattle.engine.specs.Engine.{played}
-use Rattle.engine.proofs.RunLaws.{Ran, ran-none, fewer-left, piece-starts, piece-ends, ran-more, Replied, replied-none, replied-more, ran-all}
+use Rattle.engine.proofs.RunLaws.{Ran, Replied}
 use Rattle.engine.proofs.run.Given as goal
 
 abbrev pub invariant-loop-k : goal.invariant-loop-k

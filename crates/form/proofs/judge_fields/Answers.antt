@@ -1,5 +1,4 @@
 -- `form::judge_fields` meets its contract. Assumes nothing.
-use borrow.Author.Rules.{rules}
 use Rattle.words.proofs.RefusalLaws.{judging}
 use Rattle.form.proofs.judge_fields.Goals as goal
 

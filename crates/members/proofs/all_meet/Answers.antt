@@ -1,7 +1,6 @@
 -- `members::all_meet` meets its contract: a set that is not empty has 1 to 16 servers. Assumes nothing.
 use native.Mathlib.Omega.{arith}
 use lib.Count.{ones-le}
-use borrow.Author.Rules.{rules}
 use Rattle.members.proofs.Masks.{ones_pos}
 use Rattle.members.proofs.all_meet.Goals as goal
 

@@ -1,6 +1,5 @@
 -- `members::may_follow` meets its contract. Assumes nothing.
 use mathlib.Core.Path.{sym, ◌∙◌}
-use borrow.Author.Rules.{rules}
 use Rattle.members.proofs.Majorities.{other-rule}
 use Rattle.members.proofs.may_follow.Goals as goal
 

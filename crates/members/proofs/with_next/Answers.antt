@@ -5,7 +5,6 @@ use native.Mathlib.Nat.{pow-suc}
 use native.Mathlib.Omega.{arith}
 use lib.Dec.{lit<}
 use lib.Pow.{pow_mono, shl_exact}
-use borrow.Author.Rules.{rules}
 use Rattle.members.proofs.with_next.Goals as goal
 
 shifted : (k : ℕ) → k < 16 → (1 * 2 ^ k) % 2 ^ 16 ≡ 1 * 2 ^ k

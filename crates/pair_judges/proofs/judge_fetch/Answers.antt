@@ -1,5 +1,4 @@
 -- `pair_judges::judge_fetch` meets its contract. Assumes nothing.
-use borrow.Author.Rules.{rules}
 use Rattle.algorithm.proofs.Replies.{replying}
 use Rattle.pair_judges.proofs.judge_fetch.Goals as goal
 

@@ -1,9 +1,6 @@
 -- `rehearsal::put_replies` meets its contract. The invariant: the lines of the first k replies are put. Assumes nothing.
-use Prim.Native.Nat.{◌-◌, ◌≤◌}
 use borrow.Author.Rules.{rules}
-use Rattle.algorithm.specs.Run.{answers_in}
-use Rattle.report.specs.Lines.{replied_line, replied_room}
-use Rattle.report.proofs.OrderLaws.{Lined, lined-none}
+use Rattle.report.proofs.OrderLaws.{lined-none}
 use Rattle.rehearsal.proofs.PlayedLaws.{replies-more, replies-all}
 use Rattle.rehearsal.proofs.put_replies.Goals as goal
 

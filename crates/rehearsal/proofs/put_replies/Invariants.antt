@@ -1,10 +1,8 @@
 -- `rehearsal::put_replies` in turn: what its loop keeps, and what falls.
 use Prim.Native.Nat.{◌-◌, ◌≤◌}
-use borrow.Author.Rules.{rules}
 use Rattle.algorithm.specs.Run.{answers_in}
 use Rattle.report.specs.Lines.{replied_line, replied_room}
-use Rattle.report.proofs.OrderLaws.{Lined, lined-none}
-use Rattle.rehearsal.proofs.PlayedLaws.{replies-more, replies-all}
+use Rattle.report.proofs.OrderLaws.{Lined}
 use Rattle.rehearsal.proofs.put_replies.Given as goal
 
 abbrev pub invariant-loop-k : goal.invariant-loop-k

@@ -1,9 +1,6 @@
 -- `report::put_rows` meets its contract. The invariant: the lines of the first s servers are put. Assumes nothing.
-use Prim.Native.Nat.{◌-◌, ◌≤◌}
 use borrow.Author.Rules.{rules}
-use Rattle.table.specs.Layout.{table_in}
-use Rattle.report.specs.Lines.{row_line, row_room}
-use Rattle.report.proofs.OrderLaws.{Lined, lined-none, rows_more, rows_all}
+use Rattle.report.proofs.OrderLaws.{lined-none, rows_more, rows_all}
 use Rattle.report.proofs.put_rows.Goals as goal
 
 pub loop-s-init : goal.loop-s-init

@@ -1,9 +1,8 @@
 -- `report::put_rows` in turn: what its loop keeps, and what falls.
 use Prim.Native.Nat.{◌-◌, ◌≤◌}
-use borrow.Author.Rules.{rules}
 use Rattle.table.specs.Layout.{table_in}
 use Rattle.report.specs.Lines.{row_line, row_room}
-use Rattle.report.proofs.OrderLaws.{Lined, lined-none, rows_more, rows_all}
+use Rattle.report.proofs.OrderLaws.{Lined}
 use Rattle.report.proofs.put_rows.Given as goal
 
 abbrev pub invariant-loop-s : goal.invariant-loop-s

@@ -1,5 +1,4 @@
 -- `set_judges::judge_elect` meets its contract. Assumes nothing.
-use borrow.Author.Rules.{rules}
 use Rattle.algorithm.proofs.Replies.{replying}
 use Rattle.set_judges.proofs.judge_elect.Goals as goal
 

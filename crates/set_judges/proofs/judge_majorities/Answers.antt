@@ -1,5 +1,4 @@
 -- `set_judges::judge_majorities` meets its contract. Assumes nothing.
-use borrow.Author.Rules.{rules}
 use Rattle.set_judges.proofs.SetLaws.{weighing, term-alike}
 use Rattle.set_judges.proofs.judge_majorities.Goals as goal
 

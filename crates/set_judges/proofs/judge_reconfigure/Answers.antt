@@ -1,7 +1,6 @@
 -- `set_judges::judge_reconfigure` meets its contract. Assumes nothing.
 use mathlib.Core.Path.{ap}
 use mathlib.Core.Bool.{not}
-use borrow.Author.Rules.{rules}
 use Rattle.algorithm.proofs.Replies.{replying}
 use Rattle.set_judges.proofs.SetLaws.{denied}
 use Rattle.set_judges.proofs.judge_reconfigure.Goals as goal

@@ -1,5 +1,4 @@
 -- `set_judges::judge_votes` meets its contract. Assumes nothing.
-use borrow.Author.Rules.{rules}
 use Rattle.set_judges.proofs.SetLaws.{weighing}
 use Rattle.set_judges.proofs.judge_votes.Goals as goal
 

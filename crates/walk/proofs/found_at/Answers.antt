@@ -1,7 +1,6 @@
 -- `walk::found_at` meets its contract: each branch's test says which case of `found_at` holds.
 -- The sum is taken where eight bytes are left, so it is at most the length and does not wrap.
 -- Assumes nothing.
-use borrow.Author.Rules.{rules}
 use borrow.Author.Tests.{le-leb, lt-leb}
 use Rattle.walk.specs.Plan.{found_at}
 use Rattle.walk.proofs.found_at.Goals as goal

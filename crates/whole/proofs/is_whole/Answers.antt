@@ -1,5 +1,4 @@
 -- `whole::is_whole` meets its contract. Assumes nothing.
-use borrow.Author.Rules.{rules}
 use Rattle.whole.proofs.WordsLaws.{other_length, no-server, too_many, answer}
 use Rattle.whole.proofs.is_whole.Goals as goal
 

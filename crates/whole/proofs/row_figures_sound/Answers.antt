@@ -1,5 +1,4 @@
 -- `whole::row_figures_sound` meets its contract. Assumes nothing.
-use borrow.Author.Rules.{rules}
 use Rattle.whole.proofs.CheckLaws.{figures-at}
 use Rattle.whole.proofs.row_figures_sound.Goals as goal
 

@@ -1,5 +1,4 @@
 -- `whole::row_sound` meets its contract. Assumes nothing.
-use borrow.Author.Rules.{rules}
 use Rattle.whole.proofs.CheckLaws.{row-long, row_at}
 use Rattle.whole.proofs.row_sound.Goals as goal
 

@@ -1,8 +1,6 @@
 -- `whole::rows_sound` meets its contract. Assumes nothing.
 use borrow.Author.Rules.{rules}
-use Prim.Native.Nat.{◌-◌, ◌≤◌}
-use Rattle.words.specs.Words.{words}
-use Rattle.whole.proofs.CheckLaws.{RowsTested, rows_none, rows_more, rows_all}
+use Rattle.whole.proofs.CheckLaws.{rows_none, rows_more, rows_all}
 use Rattle.whole.proofs.rows_sound.Goals as goal
 
 pub loop-k-init : goal.loop-k-init

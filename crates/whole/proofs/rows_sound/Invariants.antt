@@ -1,8 +1,7 @@
 -- `whole::rows_sound` in turn: what its loop keeps, and what falls.
-use borrow.Author.Rules.{rules}
 use Prim.Native.Nat.{◌-◌, ◌≤◌}
 use Rattle.words.specs.Words.{words}
-use Rattle.whole.proofs.CheckLaws.{RowsTested, rows_none, rows_more, rows_all}
+use Rattle.whole.proofs.CheckLaws.{RowsTested}
 use Rattle.whole.proofs.rows_sound.Given as goal
 
 abbrev pub invariant-loop-k : goal.invariant-loop-k

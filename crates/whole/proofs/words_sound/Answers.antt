@@ -1,5 +1,4 @@
 -- `whole::words_sound` meets its contract. Assumes nothing.
-use borrow.Author.Rules.{rules}
 use Rattle.whole.proofs.CheckLaws.{words-at}
 use Rattle.whole.proofs.words_sound.Goals as goal
 

@@ -1,7 +1,6 @@
 -- `words::all_between` in turn: what its loop keeps, and what falls.
 use Prim.Native.Nat.{◌-◌, ◌≤◌}
-use borrow.Author.Rules.{rules}
-use Rattle.words.proofs.PartLaws.{Tested, tested-none, tested-more, tested-all}
+use Rattle.words.proofs.PartLaws.{Tested}
 use Rattle.words.proofs.all_between.Given as goal
 
 abbrev pub invariant-loop-i : goal.invariant-loop-i

@@ -1,9 +1,6 @@
 -- `writer::put_bodies` meets its contract. Assumes nothing.
-use Prim.Native.Nat.{◌+◌, ◌-◌, ◌≤◌}
 use borrow.Author.Rules.{rules}
-use Rattle.algorithm.specs.Table.{most_servers}
-use Rattle.table.specs.Layout.{table_in}
-use Rattle.writer.proofs.PlaceLaws.{Bodied, few-servers, bodied-none, body-start, body-room, bodied-more, bodied-all}
+use Rattle.writer.proofs.PlaceLaws.{few-servers, bodied-none, body-start, body-room, bodied-more, bodied-all}
 use Rattle.writer.proofs.put_bodies.Goals as goal
 
 pub loop-e-init : goal.loop-e-init

@@ -1,9 +1,8 @@
 -- `writer::put_bodies` in turn: what its loop keeps, and what falls.
 use Prim.Native.Nat.{◌+◌, ◌-◌, ◌≤◌}
-use borrow.Author.Rules.{rules}
 use Rattle.algorithm.specs.Table.{most_servers}
 use Rattle.table.specs.Layout.{table_in}
-use Rattle.writer.proofs.PlaceLaws.{Bodied, few-servers, bodied-none, body-start, body-room, bodied-more, bodied-all}
+use Rattle.writer.proofs.PlaceLaws.{Bodied}
 use Rattle.writer.proofs.put_bodies.Given as goal
 
 abbrev pub invariant-loop-e : goal.invariant-loop-e

@@ -1,9 +1,6 @@
 -- `writer::put_contents` meets its contract. Assumes nothing.
-use Prim.Native.Nat.{◌+◌, ◌-◌, ◌≤◌}
 use borrow.Author.Rules.{rules}
-use Rattle.algorithm.specs.Table.{most_servers}
-use Rattle.table.specs.Layout.{table_in}
-use Rattle.writer.proofs.PlaceLaws.{Placed, few-servers, placed-none, placed-more, Entered, entered-none, entered-more, entered_all}
+use Rattle.writer.proofs.PlaceLaws.{few-servers, placed-none, placed-more, entered-none, entered-more, entered_all}
 use Rattle.writer.proofs.put_contents.Goals as goal
 
 pub loop-e-init : goal.loop-e-init

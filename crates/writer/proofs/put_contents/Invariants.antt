@@ -1,9 +1,8 @@
 -- `writer::put_contents` in turn: what its loop keeps, and what falls.
 use Prim.Native.Nat.{◌+◌, ◌-◌, ◌≤◌}
-use borrow.Author.Rules.{rules}
 use Rattle.algorithm.specs.Table.{most_servers}
 use Rattle.table.specs.Layout.{table_in}
-use Rattle.writer.proofs.PlaceLaws.{Placed, few-servers, placed-none, placed-more, Entered, entered-none, entered-more, entered_all}
+use Rattle.writer.proofs.PlaceLaws.{Placed, Entered}
 use Rattle.writer.proofs.put_contents.Given as goal
 
 abbrev pub invariant-loop-e : goal.invariant-loop-e

@@ -1,7 +1,6 @@
 -- `doers::configs::elect` meets its contract. Assumes nothing.
 use native.Mathlib.Omega.{arith}
 use mathlib.Core.Path.{ap}
-use borrow.Author.Rules.{rules}
 use Rattle.table.specs.declared.rows.Row.{Row}
 use Rattle.doers.proofs.VoteLaws.{elect-put}
 use Rattle.doers.proofs.configs.elect.Goals as goal

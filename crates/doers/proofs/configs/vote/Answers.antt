@@ -1,9 +1,6 @@
 -- `doers::configs::vote` meets its contract. Assumes nothing.
-use Prim.Native.Nat.{◌-◌}
-use mathlib.Core.Path.{◌≡◌}
-use lib.ListN.{length}
 use borrow.Author.Rules.{rules}
-use Rattle.doers.proofs.VoteLaws.{Voted, voted-none, voted-more, voted-all}
+use Rattle.doers.proofs.VoteLaws.{voted-none, voted-more, voted-all}
 use Rattle.doers.proofs.configs.vote.Goals as goal
 
 pub loop-k-init : goal.loop-k-init

@@ -2,8 +2,7 @@
 use Prim.Native.Nat.{◌-◌}
 use mathlib.Core.Path.{◌≡◌}
 use lib.ListN.{length}
-use borrow.Author.Rules.{rules}
-use Rattle.doers.proofs.VoteLaws.{Voted, voted-none, voted-more, voted-all}
+use Rattle.doers.proofs.VoteLaws.{Voted}
 use Rattle.doers.proofs.configs.vote.Given as goal
 
 abbrev pub invariant-loop-k : goal.invariant-loop-k

@@ -1,9 +1,6 @@
 -- `doers::logs::stretch` meets its contract. Assumes nothing.
-use Prim.Native.Nat.{◌-◌}
-use mathlib.Core.Path.{◌≡◌}
-use lib.ListN.{length}
 use borrow.Author.Rules.{rules}
-use Rattle.doers.proofs.StretchLaws.{not-shorter, Copying, copying-none, still-within, copying-room, copying-more, copying-count, copying-all}
+use Rattle.doers.proofs.StretchLaws.{not-shorter, copying-none, still-within, copying-room, copying-more, copying-count, copying-all}
 use Rattle.doers.proofs.logs.stretch.Goals as goal
 
 pub overflow_sub-length_of : goal.overflow_sub-length_of

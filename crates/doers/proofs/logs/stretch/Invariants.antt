@@ -2,8 +2,7 @@
 use Prim.Native.Nat.{◌-◌}
 use mathlib.Core.Path.{◌≡◌}
 use lib.ListN.{length}
-use borrow.Author.Rules.{rules}
-use Rattle.doers.proofs.StretchLaws.{not-shorter, Copying, copying-none, still-within, copying-room, copying-more, copying-count, copying-all}
+use Rattle.doers.proofs.StretchLaws.{Copying}
 use Rattle.doers.proofs.logs.stretch.Given as goal
 
 abbrev pub invariant-loop-k : goal.invariant-loop-k

@@ -1,8 +1,6 @@
 -- `image::bodies::are_sound` meets its contract. Assumes nothing.
 use borrow.Author.Rules.{rules}
-use Prim.Native.Nat.{◌+◌, ◌-◌, ◌≤◌}
-use Rattle.image.specs.Contents.{sound_at}
-use Rattle.words.proofs.BelowLaws.{Tested, tested-none, tested-more}
+use Rattle.words.proofs.BelowLaws.{tested-none, tested-more}
 use Rattle.image.proofs.BodyLaws.{name-at, bodies-tell}
 use Rattle.image.proofs.bodies.are_sound.Goals as goal
 

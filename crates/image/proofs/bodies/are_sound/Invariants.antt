@@ -1,9 +1,7 @@
 -- `image::bodies::are_sound` in turn: what its loop keeps, and what falls.
-use borrow.Author.Rules.{rules}
 use Prim.Native.Nat.{◌+◌, ◌-◌, ◌≤◌}
 use Rattle.image.specs.Contents.{sound_at}
-use Rattle.words.proofs.BelowLaws.{Tested, tested-none, tested-more}
-use Rattle.image.proofs.BodyLaws.{name-at, bodies-tell}
+use Rattle.words.proofs.BelowLaws.{Tested}
 use Rattle.image.proofs.bodies.are_sound.Given as goal
 
 abbrev pub invariant-loop-e : goal.invariant-loop-e

@@ -1,7 +1,6 @@
 -- `image::bodies::terms_sound` meets its contract. Assumes nothing.
 use borrow.Author.Rules.{rules}
-use Prim.Native.Nat.{◌-◌}
-use Rattle.image.proofs.BodyLaws.{Termed, termed-none, termed-more, termed-all}
+use Rattle.image.proofs.BodyLaws.{termed-none, termed-more, termed-all}
 use Rattle.image.proofs.bodies.terms_sound.Goals as goal
 
 pub loop-k-init : goal.loop-k-init

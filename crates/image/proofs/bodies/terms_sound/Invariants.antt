@@ -1,7 +1,6 @@
 -- `image::bodies::terms_sound` in turn: what its loop keeps, and what falls.
-use borrow.Author.Rules.{rules}
 use Prim.Native.Nat.{◌-◌}
-use Rattle.image.proofs.BodyLaws.{Termed, termed-none, termed-more, termed-all}
+use Rattle.image.proofs.BodyLaws.{Termed}
 use Rattle.image.proofs.bodies.terms_sound.Given as goal
 
 abbrev pub invariant-loop-k : goal.invariant-loop-k

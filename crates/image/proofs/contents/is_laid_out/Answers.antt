@@ -1,9 +1,6 @@
 -- `image::contents::is_laid_out` meets its contract. Assumes nothing.
-use Prim.Native.Nat.{◌+◌, ◌-◌, ◌≤◌}
-use mathlib.Core.Path.{◌≡◌}
 use borrow.Author.Rules.{rules}
-use Rattle.image.specs.Contents.{start, laid}
-use Rattle.words.proofs.BelowLaws.{Tested, tested-none, tested-more}
+use Rattle.words.proofs.BelowLaws.{tested-none, tested-more}
 use Rattle.image.proofs.ContentsLaws.{next_start, cut-contents, contents-tell}
 use Rattle.image.proofs.contents.is_laid_out.Goals as goal
 

@@ -1,10 +1,8 @@
 -- `image::contents::is_laid_out` in turn: what its loop keeps, and what falls.
 use Prim.Native.Nat.{◌+◌, ◌-◌, ◌≤◌}
 use mathlib.Core.Path.{◌≡◌}
-use borrow.Author.Rules.{rules}
 use Rattle.image.specs.Contents.{start, laid}
-use Rattle.words.proofs.BelowLaws.{Tested, tested-none, tested-more}
-use Rattle.image.proofs.ContentsLaws.{next_start, cut-contents, contents-tell}
+use Rattle.words.proofs.BelowLaws.{Tested}
 use Rattle.image.proofs.contents.is_laid_out.Given as goal
 
 abbrev pub invariant-loop-e : goal.invariant-loop-e

@@ -1,7 +1,6 @@
 -- `members::apart::lowest_apart` meets its contract. Assumes nothing.
 use native.Mathlib.Omega.{arith}
 use lib.Count.{ones-le}
-use borrow.Author.Rules.{rules}
 use Rattle.words.proofs.Tests.{false-fails}
 use Rattle.members.proofs.Masks.{ones_pos}
 use Rattle.members.proofs.Pairs.{pair_found}

@@ -1,10 +1,8 @@
 -- `members::apart::lowest_servers` meets its contract. The loop's invariant: q has those of the servers 1 to i. Assumes nothing.
 use mathlib.Core.Path.{◌≡◌, refl}
-use Prim.Native.Nat.{◌-◌, ◌≤◌}
 use native.Mathlib.Omega.{arith}
-use borrow.Author.Rules.{rules}
 use Rattle.members.specs.Members.{mask}
-use Rattle.members.specs.Rules.{is_low, lowest_servers}
+use Rattle.members.specs.Rules.{is_low}
 use Rattle.members.proofs.Masks.{mask_lt}
 use Rattle.members.proofs.Lowest.{low-next}
 use Rattle.members.proofs.apart.lowest_servers.Goals as goal

@@ -1,12 +1,7 @@
 -- `members::apart::lowest_servers` in turn: what its loop keeps, and what falls.
-use mathlib.Core.Path.{◌≡◌, refl}
+use mathlib.Core.Path.{◌≡◌}
 use Prim.Native.Nat.{◌-◌, ◌≤◌}
-use native.Mathlib.Omega.{arith}
-use borrow.Author.Rules.{rules}
-use Rattle.members.specs.Members.{mask}
-use Rattle.members.specs.Rules.{is_low, lowest_servers}
-use Rattle.members.proofs.Masks.{mask_lt}
-use Rattle.members.proofs.Lowest.{low-next}
+use Rattle.members.specs.Rules.{lowest_servers}
 use Rattle.members.proofs.apart.lowest_servers.Given as goal
 
 abbrev pub invariant-loop-i : goal.invariant-loop-i

@@ -1,6 +1,5 @@
 -- `members::sheet::least_shared` meets its contract: that the array is the rule's list is computed here. Assumes nothing.
 use native.Mathlib.Omega.{arith}
-use borrow.Author.Rules.{rules}
 use Rattle.members.proofs.SheetLaws.{entry}
 use Rattle.members.proofs.sheet.least_shared.Goals as goal
 

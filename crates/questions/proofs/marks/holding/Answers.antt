@@ -1,10 +1,7 @@
 -- `questions::marks::holding` meets its contract. The loop's invariant: m has those that hold what is marked at positions 1 to 8 k.
 -- Assumes nothing.
-use Prim.Native.Nat.{◌-◌, ◌*◌, ◌≤◌}
 use borrow.Author.Rules.{rules}
-use Rattle.algorithm.specs.Table.{server}
-use Rattle.table.specs.Layout.{table_in}
-use Rattle.questions.proofs.MarkLaws.{Holding, holding-none, holding-eight, holding-all}
+use Rattle.questions.proofs.MarkLaws.{holding-none, holding-eight, holding-all}
 use Rattle.questions.proofs.marks.holding.Goals as goal
 
 pub loop-k-init : goal.loop-k-init

@@ -1,9 +1,8 @@
 -- `questions::marks::holding` in turn: what its loop keeps, and what falls.
 use Prim.Native.Nat.{◌-◌, ◌*◌, ◌≤◌}
-use borrow.Author.Rules.{rules}
 use Rattle.algorithm.specs.Table.{server}
 use Rattle.table.specs.Layout.{table_in}
-use Rattle.questions.proofs.MarkLaws.{Holding, holding-none, holding-eight, holding-all}
+use Rattle.questions.proofs.MarkLaws.{Holding}
 use Rattle.questions.proofs.marks.holding.Given as goal
 
 abbrev pub invariant-loop-k : goal.invariant-loop-k

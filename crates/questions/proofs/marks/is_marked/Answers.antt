@@ -1,11 +1,5 @@
 -- `questions::marks::is_marked` meets its contract. The loop's invariant: `some` tells it of the first k positions. Assumes nothing.
-use Prim.Native.Nat.{◌-◌, ◌≤◌}
-use mathlib.Core.Path.{◌≡◌}
 use borrow.Author.Rules.{rules}
-use Rattle.algorithm.specs.Table.{server}
-use Rattle.algorithm.specs.Actions.{some_marked}
-use Rattle.words.specs.Lists.{part}
-use Rattle.table.specs.Layout.{table_in}
 use Rattle.questions.proofs.MarkLaws.{marked-none, marked_next, marked_all}
 use Rattle.questions.proofs.marks.is_marked.Goals as goal
 

@@ -1,12 +1,10 @@
 -- `questions::marks::is_marked` in turn: what its loop keeps, and what falls.
 use Prim.Native.Nat.{◌-◌, ◌≤◌}
 use mathlib.Core.Path.{◌≡◌}
-use borrow.Author.Rules.{rules}
 use Rattle.algorithm.specs.Table.{server}
 use Rattle.algorithm.specs.Actions.{some_marked}
 use Rattle.words.specs.Lists.{part}
 use Rattle.table.specs.Layout.{table_in}
-use Rattle.questions.proofs.MarkLaws.{marked-none, marked_next, marked_all}
 use Rattle.questions.proofs.marks.is_marked.Given as goal
 
 abbrev pub invariant-loop-k : goal.invariant-loop-k

@@ -1,9 +1,5 @@
 -- `questions::marks::narrowed` meets its contract. The loop's invariant: m is narrowed at the first k positions. Assumes nothing.
-use Prim.Native.Nat.{◌-◌, ◌≤◌}
-use mathlib.Core.Path.{◌≡◌}
 use borrow.Author.Rules.{rules}
-use Rattle.table.specs.Layout.{table_in}
-use Rattle.questions.specs.Questions.{narrowed_past}
 use Rattle.questions.proofs.MarkLaws.{past-unmarked, past-none, past_next, past_all}
 use Rattle.questions.proofs.marks.narrowed.Goals as goal
 

@@ -1,10 +1,8 @@
 -- `questions::marks::narrowed` in turn: what its loop keeps, and what falls.
 use Prim.Native.Nat.{◌-◌, ◌≤◌}
 use mathlib.Core.Path.{◌≡◌}
-use borrow.Author.Rules.{rules}
 use Rattle.table.specs.Layout.{table_in}
 use Rattle.questions.specs.Questions.{narrowed_past}
-use Rattle.questions.proofs.MarkLaws.{past-unmarked, past-none, past_next, past_all}
 use Rattle.questions.proofs.marks.narrowed.Given as goal
 
 abbrev pub invariant-loop-k : goal.invariant-loop-k

@@ -1,10 +1,6 @@
 -- `questions::shares::sharing` meets its contract. The loop's invariant: o has those of the servers 1 to k. Assumes nothing.
-use Prim.Native.Nat.{◌-◌}
 use borrow.Author.Rules.{rules}
-use Rattle.algorithm.specs.Table.{count}
-use Rattle.table.specs.Layout.{table_in}
-use Rattle.questions.specs.Questions.{alike}
-use Rattle.questions.proofs.LoopLaws.{Turned, alike-none, alike_all}
+use Rattle.questions.proofs.LoopLaws.{alike-none, alike_all}
 use Rattle.questions.proofs.shares.sharing.Goals as goal
 
 pub loop-k-init : goal.loop-k-init

@@ -1,10 +1,9 @@
 -- `questions::shares::sharing` in turn: what its loop keeps, and what falls.
 use Prim.Native.Nat.{◌-◌}
-use borrow.Author.Rules.{rules}
 use Rattle.algorithm.specs.Table.{count}
 use Rattle.table.specs.Layout.{table_in}
 use Rattle.questions.specs.Questions.{alike}
-use Rattle.questions.proofs.LoopLaws.{Turned, alike-none, alike_all}
+use Rattle.questions.proofs.LoopLaws.{Turned}
 use Rattle.questions.proofs.shares.sharing.Given as goal
 
 abbrev pub invariant-loop-k : goal.invariant-loop-k

@@ -1,11 +1,6 @@
 -- `questions::shares::supporters` meets its contract. The loop's invariant: m has those of the servers 1 to k. Assumes nothing.
-use Prim.Native.Nat.{◌-◌}
 use borrow.Author.Rules.{rules}
-use Rattle.members.specs.Members.{passing}
-use Rattle.algorithm.specs.Table.{count}
-use Rattle.algorithm.specs.Actions.{supports_at}
-use Rattle.table.specs.Layout.{table_in}
-use Rattle.questions.proofs.LoopLaws.{Turned, passing-none, passing-fits, passing-next, passing-all}
+use Rattle.questions.proofs.LoopLaws.{passing-none, passing-fits, passing-next, passing-all}
 use Rattle.questions.proofs.shares.supporters.Goals as goal
 
 pub loop-k-init : goal.loop-k-init
@@ -16,10 +11,10 @@ with_next-m-requires c = search (rules, passing-fits)
 
 pub loop-k-preserved : goal.loop-k-preserved
 loop-k-preserved c = record {
-      most = search rules;
-      all = search rules;
-      is = passing-next _ _ _ _ _ _ c.loop-k.invariant.is c.member_supports.ensures c.with_next-m.ensures;
-    }
+  most = search rules;
+  all = search rules;
+  is = passing-next _ _ _ _ _ _ c.loop-k.invariant.is c.member_supports.ensures c.with_next-m.ensures;
+}
 
 pub returns : goal.returns
 returns c = search (rules, passing-all)

@@ -1,11 +1,10 @@
 -- `questions::shares::supporters` in turn: what its loop keeps, and what falls.
 use Prim.Native.Nat.{◌-◌}
-use borrow.Author.Rules.{rules}
 use Rattle.members.specs.Members.{passing}
 use Rattle.algorithm.specs.Table.{count}
 use Rattle.algorithm.specs.Actions.{supports_at}
 use Rattle.table.specs.Layout.{table_in}
-use Rattle.questions.proofs.LoopLaws.{Turned, passing-none, passing-fits, passing-next, passing-all}
+use Rattle.questions.proofs.LoopLaws.{Turned}
 use Rattle.questions.proofs.shares.supporters.Given as goal
 
 abbrev pub invariant-loop-k : goal.invariant-loop-k

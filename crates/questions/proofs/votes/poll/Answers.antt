@@ -1,10 +1,6 @@
 -- `questions::votes::poll` meets its contract. The loop's invariant: o has those of the servers 1 to k. Assumes nothing.
-use Prim.Native.Nat.{◌-◌}
 use borrow.Author.Rules.{rules}
-use Rattle.algorithm.specs.Table.{count}
-use Rattle.table.specs.Layout.{table_in}
-use Rattle.questions.specs.Questions.{objecting}
-use Rattle.questions.proofs.LoopLaws.{Turned, objecting-none, objecting-all}
+use Rattle.questions.proofs.LoopLaws.{objecting-none, objecting-all}
 use Rattle.questions.proofs.votes.poll.Goals as goal
 
 pub loop-k-init : goal.loop-k-init

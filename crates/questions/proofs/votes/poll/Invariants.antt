@@ -1,10 +1,9 @@
 -- `questions::votes::poll` in turn: what its loop keeps, and what falls.
 use Prim.Native.Nat.{◌-◌}
-use borrow.Author.Rules.{rules}
 use Rattle.algorithm.specs.Table.{count}
 use Rattle.table.specs.Layout.{table_in}
 use Rattle.questions.specs.Questions.{objecting}
-use Rattle.questions.proofs.LoopLaws.{Turned, objecting-none, objecting-all}
+use Rattle.questions.proofs.LoopLaws.{Turned}
 use Rattle.questions.proofs.votes.poll.Given as goal
 
 abbrev pub invariant-loop-k : goal.invariant-loop-k

@@ -1,10 +1,9 @@
 -- `reader::fill::fill_servers` meets its contract. Assumes nothing.
-use Prim.Native.Nat.{◌-◌}
 use native.Mathlib.Omega.{arith}
 use borrow.Author.Rules.{rules}
 use Rattle.table.proofs.HeldLaws.{held}
 use Rattle.image.proofs.BodyLaws.{name-next, server-sized}
-use Rattle.reader.proofs.FillLaws.{Filled, filled_none, filled_within, filled-empty, filled_more, filled-all}
+use Rattle.reader.proofs.FillLaws.{filled_none, filled_within, filled-empty, filled_more, filled-all}
 use Rattle.reader.proofs.fill.fill_servers.Goals as goal
 
 pub loop-s-init : goal.loop-s-init

@@ -1,7 +1,6 @@
 -- `reader::fill::put_log` meets its contract. Assumes nothing.
 use borrow.Author.Rules.{rules}
-use Prim.Native.Nat.{◌-◌}
-use Rattle.reader.proofs.FillLaws.{Logged, log-none, log-room, log-more, log-all}
+use Rattle.reader.proofs.FillLaws.{log-none, log-room, log-more, log-all}
 use Rattle.reader.proofs.fill.put_log.Goals as goal
 
 pub loop-k-init : goal.loop-k-init

@@ -1,7 +1,6 @@
 -- `reader::fill::put_log` in turn: what its loop keeps, and what falls.
-use borrow.Author.Rules.{rules}
 use Prim.Native.Nat.{◌-◌}
-use Rattle.reader.proofs.FillLaws.{Logged, log-none, log-room, log-more, log-all}
+use Rattle.reader.proofs.FillLaws.{Logged}
 use Rattle.reader.proofs.fill.put_log.Given as goal
 
 abbrev pub invariant-loop-k : goal.invariant-loop-k

@@ -1,7 +1,6 @@
 -- `reader::fill::put_marks` meets its contract. Assumes nothing.
 use borrow.Author.Rules.{rules}
-use Prim.Native.Nat.{◌-◌}
-use Rattle.reader.proofs.FillLaws.{Marking, marks-none, marks-more, marks-all}
+use Rattle.reader.proofs.FillLaws.{marks-none, marks-more, marks-all}
 use Rattle.reader.proofs.fill.put_marks.Goals as goal
 
 pub loop-k-init : goal.loop-k-init

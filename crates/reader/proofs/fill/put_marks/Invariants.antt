@@ -1,7 +1,6 @@
 -- `reader::fill::put_marks` in turn: what its loop keeps, and what falls.
-use borrow.Author.Rules.{rules}
 use Prim.Native.Nat.{◌-◌}
-use Rattle.reader.proofs.FillLaws.{Marking, marks-none, marks-more, marks-all}
+use Rattle.reader.proofs.FillLaws.{Marking}
 use Rattle.reader.proofs.fill.put_marks.Given as goal
 
 abbrev pub invariant-loop-k : goal.invariant-loop-k

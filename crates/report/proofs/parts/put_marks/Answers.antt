@@ -1,10 +1,5 @@
 -- `report::parts::put_marks` meets its contract. Assumes nothing.
-use Prim.Native.Nat.{◌*◌, ◌-◌, ◌≤◌}
-use mathlib.Core.Path.{◌≡◌}
 use borrow.Author.Rules.{rules}
-use lib.ListN.{length, take}
-use Rattle.table.specs.Layout.{table_in}
-use Rattle.buffer.specs.Buffer.{field_room, fields, WroteShort}
 use Rattle.buffer.proofs.FieldLaws.{no_fields}
 use Rattle.report.proofs.MarkLaws.{marks-more, marks-all}
 use Rattle.report.proofs.parts.put_marks.Goals as goal

@@ -1,12 +1,9 @@
 -- `report::parts::put_marks` in turn: what its loop keeps, and what falls.
 use Prim.Native.Nat.{◌*◌, ◌-◌, ◌≤◌}
 use mathlib.Core.Path.{◌≡◌}
-use borrow.Author.Rules.{rules}
 use lib.ListN.{length, take}
 use Rattle.table.specs.Layout.{table_in}
 use Rattle.buffer.specs.Buffer.{field_room, fields, WroteShort}
-use Rattle.buffer.proofs.FieldLaws.{no_fields}
-use Rattle.report.proofs.MarkLaws.{marks-more, marks-all}
 use Rattle.report.proofs.parts.put_marks.Given as goal
 
 abbrev pub invariant-loop-k : goal.invariant-loop-k

@@ -1,7 +1,6 @@
 -- `table::marks::marked` meets its contract. Assumes nothing.
 use borrow.Author.Rules.{rules}
-use Rattle.table.specs.Layout.{table_in}
-use Rattle.table.proofs.MarkLaws.{Bare, bare-none, bare-more, bare-found, bare-all}
+use Rattle.table.proofs.MarkLaws.{bare-none, bare-more, bare-found, bare-all}
 use Rattle.table.proofs.marks.marked.Goals as goal
 
 pub loop-n-init : goal.loop-n-init

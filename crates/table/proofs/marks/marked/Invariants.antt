@@ -1,7 +1,6 @@
 -- `table::marks::marked` in turn: what its loop keeps, and what falls.
-use borrow.Author.Rules.{rules}
 use Rattle.table.specs.Layout.{table_in}
-use Rattle.table.proofs.MarkLaws.{Bare, bare-none, bare-more, bare-found, bare-all}
+use Rattle.table.proofs.MarkLaws.{Bare}
 use Rattle.table.proofs.marks.marked.Given as goal
 
 abbrev pub invariant-loop-n : goal.invariant-loop-n

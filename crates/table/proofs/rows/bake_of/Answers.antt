@@ -1,5 +1,4 @@
 -- `table::rows::bake_of` meets its contract. Assumes nothing.
-use borrow.Author.Rules.{rules}
 use Rattle.table.proofs.RowLaws.{bake-read}
 use Rattle.table.proofs.rows.bake_of.Goals as goal
 

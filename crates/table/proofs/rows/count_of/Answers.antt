@@ -1,5 +1,4 @@
 -- `table::rows::count_of` meets its contract. Assumes nothing.
-use borrow.Author.Rules.{rules}
 use Rattle.table.proofs.RowLaws.{count_small, count-read}
 use Rattle.table.proofs.rows.count_of.Goals as goal
 

@@ -1,5 +1,4 @@
 -- `table::rows::entry_of` meets its contract. Assumes nothing.
-use borrow.Author.Rules.{rules}
 use Rattle.table.proofs.RowLaws.{entry_read}
 use Rattle.table.proofs.rows.entry_of.Goals as goal
 

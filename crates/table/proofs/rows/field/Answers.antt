@@ -1,5 +1,4 @@
 -- `table::rows::field` meets its contract. Assumes nothing.
-use borrow.Author.Rules.{rules}
 use Rattle.table.proofs.HeldLaws.{field-read}
 use Rattle.table.proofs.rows.field.Goals as goal
 

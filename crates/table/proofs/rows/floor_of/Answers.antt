@@ -1,5 +1,4 @@
 -- `table::rows::floor_of` meets its contract. Assumes nothing.
-use borrow.Author.Rules.{rules}
 use Rattle.table.proofs.RowLaws.{floor-read}
 use Rattle.table.proofs.rows.floor_of.Goals as goal
 

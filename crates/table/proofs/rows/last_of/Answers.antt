@@ -1,5 +1,4 @@
 -- `table::rows::last_of` meets its contract. Assumes nothing.
-use borrow.Author.Rules.{rules}
 use Rattle.table.proofs.rows.last_of.Goals as goal
 
 pub returns : goal.returns

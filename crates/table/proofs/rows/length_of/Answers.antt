@@ -1,7 +1,6 @@
 -- `table::rows::length_of` meets its contract. Assumes nothing.
 use Prim.Native.Nat.{◌≤◌}
 use native.Mathlib.Omega.{arith}
-use borrow.Author.Rules.{rules}
 use Rattle.table.proofs.RowLaws.{log-short}
 use Rattle.algorithm.specs.Table.{positions}
 use Rattle.table.proofs.rows.length_of.Goals as goal

@@ -1,5 +1,4 @@
 -- `table::rows::mark_of` meets its contract. Assumes nothing.
-use borrow.Author.Rules.{rules}
 use Rattle.table.proofs.RowLaws.{mark-read}
 use Rattle.table.proofs.rows.mark_of.Goals as goal
 

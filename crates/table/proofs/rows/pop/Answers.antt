@@ -1,5 +1,4 @@
 -- `table::rows::pop` meets its contract. Assumes nothing.
-use borrow.Author.Rules.{rules}
 use Rattle.table.proofs.RowLaws.{pop-put}
 use Rattle.table.proofs.rows.pop.Goals as goal
 

@@ -1,5 +1,4 @@
 -- `table::rows::put_config` meets its contract. Assumes nothing.
-use borrow.Author.Rules.{rules}
 use Rattle.table.proofs.RowLaws.{config-put}
 use Rattle.table.proofs.rows.put_config.Goals as goal
 

@@ -1,5 +1,4 @@
 -- `table::rows::put_mark` meets its contract. Assumes nothing.
-use borrow.Author.Rules.{rules}
 use Rattle.table.proofs.RowLaws.{mark-put}
 use Rattle.table.proofs.rows.put_mark.Goals as goal
 

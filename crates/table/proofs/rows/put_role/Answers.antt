@@ -1,5 +1,4 @@
 -- `table::rows::put_role` meets its contract. Assumes nothing.
-use borrow.Author.Rules.{rules}
 use Rattle.table.proofs.RowLaws.{role-put}
 use Rattle.table.proofs.rows.put_role.Goals as goal
 

@@ -1,5 +1,4 @@
 -- `table::rows::put_term` meets its contract. Assumes nothing.
-use borrow.Author.Rules.{rules}
 use Rattle.table.proofs.RowLaws.{term-put}
 use Rattle.table.proofs.rows.put_term.Goals as goal
 

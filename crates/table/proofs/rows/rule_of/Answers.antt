@@ -1,5 +1,4 @@
 -- `table::rows::rule_of` meets its contract. Assumes nothing.
-use borrow.Author.Rules.{rules}
 use Rattle.table.proofs.RowLaws.{rule-read}
 use Rattle.table.proofs.rows.rule_of.Goals as goal
 

@@ -1,5 +1,4 @@
 -- `table::rows::set_of` meets its contract. Assumes nothing.
-use borrow.Author.Rules.{rules}
 use Rattle.table.proofs.RowLaws.{set-small}
 use Rattle.table.proofs.rows.set_of.Goals as goal
 

@@ -1,5 +1,4 @@
 -- `whole::fresh::fill_blank` meets its contract. Assumes nothing.
-use borrow.Author.Rules.{rules}
 use Rattle.whole.proofs.FreshLaws.{blank-holds}
 use Rattle.whole.proofs.fresh.fill_blank.Goals as goal
 

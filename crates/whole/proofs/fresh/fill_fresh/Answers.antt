@@ -1,5 +1,4 @@
 -- `whole::fresh::fill_fresh` meets its contract. Assumes nothing.
-use borrow.Author.Rules.{rules}
 use Rattle.table.proofs.HeldLaws.{held}
 use Rattle.table.proofs.StoredLaws.{held-stored}
 use Rattle.whole.proofs.FreshLaws.{blank-servers, given-fresh}

@@ -1,7 +1,6 @@
 -- `whole::fresh::give_set` meets its contract. Assumes nothing.
-use Prim.Native.Nat.{◌-◌}
 use borrow.Author.Rules.{rules}
-use Rattle.whole.proofs.FreshLaws.{Given, given-none, given-held, given-within, given-more, given-all}
+use Rattle.whole.proofs.FreshLaws.{given-none, given-held, given-within, given-more, given-all}
 use Rattle.whole.proofs.fresh.give_set.Goals as goal
 
 pub loop-k-init : goal.loop-k-init

@@ -1,7 +1,6 @@
 -- `whole::fresh::give_set` in turn: what its loop keeps, and what falls.
 use Prim.Native.Nat.{◌-◌}
-use borrow.Author.Rules.{rules}
-use Rattle.whole.proofs.FreshLaws.{Given, given-none, given-held, given-within, given-more, given-all}
+use Rattle.whole.proofs.FreshLaws.{Given}
 use Rattle.whole.proofs.fresh.give_set.Given as goal
 
 abbrev pub invariant-loop-k : goal.invariant-loop-k

@@ -1,8 +1,5 @@
 -- `whole::fresh::zero` meets its contract. Assumes nothing.
-use Prim.Native.Nat.{◌-◌}
-use lib.ListN.{length}
-use borrow.Author.Rules.{rules}
-use Rattle.whole.proofs.FreshLaws.{Cleared, cleared-none, cleared_more, cleared-all}
+use Rattle.whole.proofs.FreshLaws.{cleared-none, cleared_more, cleared-all}
 use Rattle.whole.proofs.fresh.zero.Goals as goal
 
 pub loop-i-init : goal.loop-i-init

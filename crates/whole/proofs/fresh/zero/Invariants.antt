@@ -1,8 +1,7 @@
 -- `whole::fresh::zero` in turn: what its loop keeps, and what falls.
 use Prim.Native.Nat.{◌-◌}
 use lib.ListN.{length}
-use borrow.Author.Rules.{rules}
-use Rattle.whole.proofs.FreshLaws.{Cleared, cleared-none, cleared_more, cleared-all}
+use Rattle.whole.proofs.FreshLaws.{Cleared}
 use Rattle.whole.proofs.fresh.zero.Given as goal
 
 abbrev pub invariant-loop-i : goal.invariant-loop-i

@@ -1,9 +1,6 @@
 -- `writer::bodies::put_entries` meets its contract. Assumes nothing.
-use Prim.Native.Nat.{◌-◌}
 use borrow.Author.Rules.{rules}
-use Rattle.algorithm.specs.Table.{server}
-use Rattle.table.specs.Layout.{table_in}
-use Rattle.writer.proofs.BodyWriteLaws.{Paired, paired_none, paired-more, paired-all}
+use Rattle.writer.proofs.BodyWriteLaws.{paired_none, paired-more, paired-all}
 use Rattle.writer.proofs.bodies.put_entries.Goals as goal
 
 pub loop-p-init : goal.loop-p-init

@@ -1,9 +1,8 @@
 -- `writer::bodies::put_entries` in turn: what its loop keeps, and what falls.
 use Prim.Native.Nat.{◌-◌}
-use borrow.Author.Rules.{rules}
 use Rattle.algorithm.specs.Table.{server}
 use Rattle.table.specs.Layout.{table_in}
-use Rattle.writer.proofs.BodyWriteLaws.{Paired, paired_none, paired-more, paired-all}
+use Rattle.writer.proofs.BodyWriteLaws.{Paired}
 use Rattle.writer.proofs.bodies.put_entries.Given as goal
 
 abbrev pub invariant-loop-p : goal.invariant-loop-p

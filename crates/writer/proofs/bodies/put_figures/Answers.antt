@@ -5,6 +5,6 @@ use Rattle.writer.proofs.bodies.put_figures.Goals as goal
 
 pub returns : goal.returns
 returns c = (
-      figures-wrote _ _ _ _ _ _ _ _ _ _ _ c.args.f c.requires.role_bound c.put_half-end.ensures c.put_half-end-2.ensures c.put_number-end.ensures.0 c.put_number-end-2.ensures.0 c.put_number.ensures.0,
-      search rules,
-    )
+  figures-wrote _ _ _ _ _ _ _ _ _ _ _ c.args.f c.requires.role_bound c.put_half-end.ensures c.put_half-end-2.ensures c.put_number-end.ensures.0 c.put_number-end-2.ensures.0 c.put_number.ensures.0,
+  search rules,
+)

@@ -1,5 +1,4 @@
 -- `writer::bodies::put_words` meets its contract. Assumes nothing.
-use borrow.Author.Rules.{rules}
 use Rattle.writer.proofs.BodyWriteLaws.{words-wrote}
 use Rattle.writer.proofs.bodies.put_words.Goals as goal
 

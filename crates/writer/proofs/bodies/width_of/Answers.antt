@@ -1,8 +1,6 @@
 -- `writer::bodies::width_of` meets its contract. Assumes nothing.
-use Prim.Native.Nat.{◌-◌}
 use borrow.Author.Rules.{rules}
-use Rattle.table.specs.Layout.{table_in}
-use Rattle.writer.proofs.RowWords.{Bare, bare-none, bare-more, all-bare, some-baked}
+use Rattle.writer.proofs.RowWords.{bare-none, bare-more, all-bare, some-baked}
 use Rattle.writer.proofs.bodies.width_of.Goals as goal
 
 pub loop-s-init : goal.loop-s-init

@@ -1,8 +1,7 @@
 -- `writer::bodies::width_of` in turn: what its loop keeps, and what falls.
 use Prim.Native.Nat.{◌-◌}
-use borrow.Author.Rules.{rules}
 use Rattle.table.specs.Layout.{table_in}
-use Rattle.writer.proofs.RowWords.{Bare, bare-none, bare-more, all-bare, some-baked}
+use Rattle.writer.proofs.RowWords.{Bare}
 use Rattle.writer.proofs.bodies.width_of.Given as goal
 
 abbrev pub invariant-loop-s : goal.invariant-loop-s
