@@ -53,10 +53,14 @@ bench: archive programs
 
 archive:
 	@tests/need
-	@mkdir -p target
-	@rt staticlib kyntulei >target/staticlib.log 2>&1 || { cat target/staticlib.log; exit 1; }
+	@mkdir -p target/staticlib
+	@cd crates/kyntulei && rt lib >../../target/staticlib.log 2>&1 || { cat ../../target/staticlib.log; exit 1; }
+	@cp crates/kyntulei/out/libkyntulei.a $(ARCHIVE)
 
 programs:
 	@tests/need
-	@mkdir -p target
-	@rt check rehearse save >target/programs.log 2>&1 || { cat target/programs.log; exit 1; }
+	@mkdir -p target/bin
+	@for program in rehearse save; do \
+	    (cd crates/$$program && rt run >../../target/programs.log 2>&1 </dev/null) || { cat target/programs.log; exit 1; }; \
+	    cp crates/$$program/out/$$program target/bin/; \
+	done
