@@ -1,11 +1,8 @@
 // What lines are made of, each put at a place of the buffer. Every function answers the place behind what it wrote.
 #![tactic(auto)]
 
-ghost use Rattle.std.specs.Prelude.{[], ◌∷◌, ◌+◌, ◌≤◌, ◌<◌, length, IfOk};
+ghost use Rattle.std.specs.Prelude.{[], ◌∷◌, ◌+◌, ◌≤◌, ◌<◌, length};
 ghost use Rattle.buffer.specs.Buffer.{decimal, number_room, field, field_room, Wrote, WroteShort};
-
-use std::io;
-use std::io::Read;
 
 pub fn put_byte(buffer: &mut [u8], at: usize, x: u8) -> usize
     requires { at < length buffer.old }
@@ -49,19 +46,4 @@ pub fn put_field(buffer: &mut [u8], at: usize, v: u32) -> usize
 {
     let end = put_byte(buffer, at, b' ');
     put_decimal(buffer, end, v)
-}
-
-// Reads until the buffer is full or nothing is left to read, and answers how many bytes that is.
-pub fn read_full<R: Read>(reader: &mut R, buffer: &mut [u8]) -> io::Result<usize>
-    ensures { IfOk result (λ n. n ≤ length buffer.new) }
-{
-    let mut end = 0;
-    while end < buffer.len() {
-        let more = reader.read(&mut buffer[end..])?;
-        if more == 0 {
-            break;
-        }
-        end += more;
-    }
-    Ok(end)
 }

@@ -1,6 +1,8 @@
 // What the programs make of an input, put at the start of a lent buffer: what stands in it, and in which order, is a function of the input.
 #![tactic(auto)]
 
+pub mod input;
+
 ghost use Rattle.std.specs.Prelude.{◌≡◌, ◌+◌, ◌*◌, ◌/◌, ◌≤◌, length};
 ghost use mathlib.Core.List.{flatten};
 ghost use Rattle.algorithm.specs.Run.{answers_in, run};

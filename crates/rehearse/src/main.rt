@@ -2,7 +2,7 @@
 // that is left. All that is printed is one proved function of the input; what is read and written no contract can say.
 #![tactic(auto)]
 
-use buffer::read_full;
+use rehearsal::input::read_full;
 use rehearsal::{MOST, ROOM, rehearse};
 use std::io;
 use std::io::Write;

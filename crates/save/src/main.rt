@@ -2,7 +2,7 @@
 // input that is not played is told on standard error, in rehearse's words. What is written to each is one proved function of the input.
 #![tactic(auto)]
 
-use buffer::read_full;
+use rehearsal::input::read_full;
 use rehearsal::{IMAGE, MOST, Saved, save};
 use std::io;
 use std::io::Write;

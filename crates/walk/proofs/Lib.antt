@@ -1,2 +1,2 @@
--- The laws of the places in a list of actions, and what the walks by hand share.
+-- The laws of the places in a list of actions.
 pub mod Laws

@@ -1,5 +1,5 @@
-// A walk over a list of actions. What takes or returns the struct has to be proved by hand, so those functions are thin: the work
-// is in `found_at` and `end_at`, on the slice and the number, and callers use `next` and `next_place`, whose parameters are plain.
+// A walk over a list of actions. What takes or returns the struct is thin: the work is in `found_at` and `end_at`, on the slice and the
+// number, and callers use `next` and `next_place`, whose parameters are plain.
 #![tactic(auto)]
 
 ghost use Rattle.std.specs.Prelude.{◌≡◌};
