@@ -9,7 +9,7 @@ CRATES =
 .PHONY: help test edits demo soak c-tests contracts rehearsals bench archive programs
 
 help:
-	@echo "make test        the gate: proves every crate from nothing, tries the edits under must-fail, runs every test"
+	@echo "make test        the gate: proves every crate, tries the edits under must-fail, runs every test"
 	@echo "make edits       tries all must-fail edits, those under must-fail-more too (several times as long), or those of CRATES='one other'"
 	@echo "make demo        builds the programs and rehearses one evening in front of you"
 	@echo "make soak        compares the programs with the plain one on COUNT=$(COUNT) inputs drawn from SEED=1"

@@ -1,5 +1,6 @@
 // Plays a plan as rehearse does, and writes the image of the table that is left to standard output: a plan appended to it goes on next day. An
-// input that is not played is told on standard error, in rehearse's words. What is written to each is one proved function of the input.
+// input that is not played is told on standard error, in rehearse's words. What is written to each is one proved function of the input; what is
+// read, and whether it arrives, no contract can say.
 #![tactic(auto)]
 
 use rehearsal::input::read_full;

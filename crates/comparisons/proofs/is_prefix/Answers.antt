@@ -1,5 +1,4 @@
--- `comparisons::is_prefix` meets its contract. The loop's invariant: the logs agree up to k if `ok`, and what follows decides the rest.
--- Assumes nothing.
+-- `comparisons::is_prefix` meets its contract. Assumes nothing.
 use borrow.Author.Rules.{rules}
 use Rattle.words.specs.Lists.{nth}
 use Rattle.comparisons.proofs.LogLaws.{prefix-long, prefix-none, prefix-next, prefix-all}

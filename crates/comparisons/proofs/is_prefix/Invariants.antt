@@ -1,4 +1,4 @@
--- `comparisons::is_prefix` in turn: what its loop keeps, and what falls.
+-- The loop of `comparisons::is_prefix`: the logs agree up to k if `ok`, and what follows decides the rest. Assumes nothing.
 use Prim.Native.Nat.{◌-◌, ◌≤◌}
 use Rattle.algorithm.specs.Table.{server}
 use Rattle.table.specs.Layout.{table_in}

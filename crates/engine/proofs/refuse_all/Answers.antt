@@ -1,4 +1,4 @@
--- `engine::refuse_all` meets its contract. The invariant: the first k replies are 1. Assumes nothing.
+-- `engine::refuse_all` meets its contract. Assumes nothing.
 use borrow.Author.Rules.{rules}
 use Rattle.engine.proofs.RunLaws.{ones_none, ones-more, ones-all}
 use Rattle.engine.proofs.refuse_all.Goals as goal

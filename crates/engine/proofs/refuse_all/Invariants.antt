@@ -1,4 +1,4 @@
--- `engine::refuse_all` in turn: what its loop keeps, and what falls.
+-- The loop of `engine::refuse_all`: the first k replies are 1. Assumes nothing.
 use Prim.Native.Nat.{◌-◌, ◌≤◌}
 use mathlib.Core.Path.{◌≡◌}
 use lib.ListN.{length}

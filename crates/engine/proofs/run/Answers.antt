@@ -1,4 +1,4 @@
--- `engine::run` meets its contract. The invariant: k pieces are played, and answered. Assumes nothing.
+-- `engine::run` meets its contract. Assumes nothing.
 use borrow.Author.Rules.{rules}
 use Rattle.engine.proofs.RunLaws.{ran-none, fewer-left, piece-starts, piece-ends, ran-more, replied-none, replied-more, ran-all}
 use Rattle.engine.proofs.run.Goals as goal

@@ -1,4 +1,4 @@
--- `engine::run` in turn: what its loop keeps, and what falls.
+-- The loop of `engine::run`: k pieces are played, and answered. Assumes nothing.
 use Prim.Native.Nat.{◌-◌, ◌≤◌}
 use mathlib.Core.Path.{◌≡◌}
 use lib.ListN.{length}

@@ -1,4 +1,4 @@
--- `rehearsal::put_replies` meets its contract. The invariant: the lines of the first k replies are put. Assumes nothing.
+-- `rehearsal::put_replies` meets its contract. Assumes nothing.
 use borrow.Author.Rules.{rules}
 use Rattle.report.proofs.OrderLaws.{lined-none}
 use Rattle.rehearsal.proofs.PlayedLaws.{replies-more, replies-all}

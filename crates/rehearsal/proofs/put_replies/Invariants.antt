@@ -1,4 +1,4 @@
--- `rehearsal::put_replies` in turn: what its loop keeps, and what falls.
+-- The loop of `rehearsal::put_replies`: the lines of the first k replies are put. Assumes nothing.
 use Prim.Native.Nat.{◌-◌, ◌≤◌}
 use Rattle.algorithm.specs.Run.{answers_in}
 use Rattle.report.specs.Lines.{replied_line, replied_room}

@@ -1,4 +1,4 @@
--- `report::put_rows` meets its contract. The invariant: the lines of the first s servers are put. Assumes nothing.
+-- `report::put_rows` meets its contract. Assumes nothing.
 use borrow.Author.Rules.{rules}
 use Rattle.report.proofs.OrderLaws.{lined-none, rows_more, rows_all}
 use Rattle.report.proofs.put_rows.Goals as goal

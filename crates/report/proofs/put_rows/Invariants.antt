@@ -1,4 +1,4 @@
--- `report::put_rows` in turn: what its loop keeps, and what falls.
+-- The loop of `report::put_rows`: the lines of the first s servers are put. Assumes nothing.
 use Prim.Native.Nat.{◌-◌, ◌≤◌}
 use Rattle.table.specs.Layout.{table_in}
 use Rattle.report.specs.Lines.{row_line, row_room}

@@ -1,4 +1,4 @@
--- `whole::rows_sound` in turn: what its loop keeps, and what falls.
+-- The loop of `whole::rows_sound`: what it keeps, and what falls. Assumes nothing.
 use Prim.Native.Nat.{◌-◌, ◌≤◌}
 use Rattle.words.specs.Words.{words}
 use Rattle.whole.proofs.CheckLaws.{RowsTested}

@@ -1,4 +1,4 @@
--- `words::all_between` in turn: what its loop keeps, and what falls.
+-- The loop of `words::all_between`: what it keeps, and what falls. Assumes nothing.
 use Prim.Native.Nat.{◌-◌, ◌≤◌}
 use Rattle.words.proofs.PartLaws.{Tested}
 use Rattle.words.proofs.all_between.Given as goal

@@ -1,4 +1,4 @@
--- `writer::put_contents` in turn: what its loop keeps, and what falls.
+-- The loop of `writer::put_contents`: what it keeps, and what falls. Assumes nothing.
 use Prim.Native.Nat.{◌+◌, ◌-◌, ◌≤◌}
 use Rattle.algorithm.specs.Table.{most_servers}
 use Rattle.table.specs.Layout.{table_in}

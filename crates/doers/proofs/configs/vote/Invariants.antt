@@ -1,4 +1,4 @@
--- `doers::configs::vote` in turn: what its loop keeps, and what falls.
+-- The loop of `doers::configs::vote`: what it keeps, and what falls. Assumes nothing.
 use Prim.Native.Nat.{◌-◌}
 use mathlib.Core.Path.{◌≡◌}
 use lib.ListN.{length}

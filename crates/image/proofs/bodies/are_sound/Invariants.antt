@@ -1,4 +1,4 @@
--- `image::bodies::are_sound` in turn: what its loop keeps, and what falls.
+-- The loop of `image::bodies::are_sound`: what it keeps, and what falls. Assumes nothing.
 use Prim.Native.Nat.{◌+◌, ◌-◌, ◌≤◌}
 use Rattle.image.specs.Contents.{sound_at}
 use Rattle.words.proofs.BelowLaws.{Tested}

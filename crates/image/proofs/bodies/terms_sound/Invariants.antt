@@ -1,4 +1,4 @@
--- `image::bodies::terms_sound` in turn: what its loop keeps, and what falls.
+-- The loop of `image::bodies::terms_sound`: what it keeps, and what falls. Assumes nothing.
 use Prim.Native.Nat.{◌-◌}
 use Rattle.image.proofs.BodyLaws.{Termed}
 use Rattle.image.proofs.bodies.terms_sound.Given as goal

@@ -1,4 +1,4 @@
--- `image::contents::is_laid_out` in turn: what its loop keeps, and what falls.
+-- The loop of `image::contents::is_laid_out`: what it keeps, and what falls. Assumes nothing.
 use Prim.Native.Nat.{◌+◌, ◌-◌, ◌≤◌}
 use mathlib.Core.Path.{◌≡◌}
 use Rattle.image.specs.Contents.{start, laid}

@@ -1,4 +1,4 @@
--- `members::apart::lowest_servers` meets its contract. The loop's invariant: q has those of the servers 1 to i. Assumes nothing.
+-- `members::apart::lowest_servers` meets its contract. Assumes nothing.
 use mathlib.Core.Path.{◌≡◌, refl}
 use native.Mathlib.Omega.{arith}
 use Rattle.members.specs.Members.{mask}

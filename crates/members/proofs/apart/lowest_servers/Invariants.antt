@@ -1,4 +1,4 @@
--- `members::apart::lowest_servers` in turn: what its loop keeps, and what falls.
+-- The loop of `members::apart::lowest_servers`: q has those of the servers 1 to i. Assumes nothing.
 use mathlib.Core.Path.{◌≡◌}
 use Prim.Native.Nat.{◌-◌, ◌≤◌}
 use Rattle.members.specs.Rules.{lowest_servers}

@@ -1,5 +1,4 @@
--- `questions::marks::holding` meets its contract. The loop's invariant: m has those that hold what is marked at positions 1 to 8 k.
--- Assumes nothing.
+-- `questions::marks::holding` meets its contract. Assumes nothing.
 use borrow.Author.Rules.{rules}
 use Rattle.questions.proofs.MarkLaws.{holding-none, holding-eight, holding-all}
 use Rattle.questions.proofs.marks.holding.Goals as goal

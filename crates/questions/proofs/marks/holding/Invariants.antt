@@ -1,4 +1,4 @@
--- `questions::marks::holding` in turn: what its loop keeps, and what falls.
+-- The loop of `questions::marks::holding`: m has those that hold what is marked at positions 1 to 8 k. Assumes nothing.
 use Prim.Native.Nat.{◌-◌, ◌*◌, ◌≤◌}
 use Rattle.algorithm.specs.Table.{server}
 use Rattle.table.specs.Layout.{table_in}

@@ -1,4 +1,4 @@
--- `questions::marks::is_marked` meets its contract. The loop's invariant: `some` tells it of the first k positions. Assumes nothing.
+-- `questions::marks::is_marked` meets its contract. Assumes nothing.
 use borrow.Author.Rules.{rules}
 use Rattle.questions.proofs.MarkLaws.{marked-none, marked_next, marked_all}
 use Rattle.questions.proofs.marks.is_marked.Goals as goal

@@ -1,4 +1,4 @@
--- `questions::marks::is_marked` in turn: what its loop keeps, and what falls.
+-- The loop of `questions::marks::is_marked`: `some` tells it of the first k positions. Assumes nothing.
 use Prim.Native.Nat.{◌-◌, ◌≤◌}
 use mathlib.Core.Path.{◌≡◌}
 use Rattle.algorithm.specs.Table.{server}

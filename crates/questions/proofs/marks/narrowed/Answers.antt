@@ -1,4 +1,4 @@
--- `questions::marks::narrowed` meets its contract. The loop's invariant: m is narrowed at the first k positions. Assumes nothing.
+-- `questions::marks::narrowed` meets its contract. Assumes nothing.
 use borrow.Author.Rules.{rules}
 use Rattle.questions.proofs.MarkLaws.{past-unmarked, past-none, past_next, past_all}
 use Rattle.questions.proofs.marks.narrowed.Goals as goal

@@ -1,4 +1,4 @@
--- `questions::marks::narrowed` in turn: what its loop keeps, and what falls.
+-- The loop of `questions::marks::narrowed`: m is narrowed at the first k positions. Assumes nothing.
 use Prim.Native.Nat.{◌-◌, ◌≤◌}
 use mathlib.Core.Path.{◌≡◌}
 use Rattle.table.specs.Layout.{table_in}

@@ -1,4 +1,4 @@
--- `questions::shares::sharing` meets its contract. The loop's invariant: o has those of the servers 1 to k. Assumes nothing.
+-- `questions::shares::sharing` meets its contract. Assumes nothing.
 use borrow.Author.Rules.{rules}
 use Rattle.questions.proofs.LoopLaws.{alike-none, alike_all}
 use Rattle.questions.proofs.shares.sharing.Goals as goal

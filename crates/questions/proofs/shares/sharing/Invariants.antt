@@ -1,4 +1,4 @@
--- `questions::shares::sharing` in turn: what its loop keeps, and what falls.
+-- The loop of `questions::shares::sharing`: o has those of the servers 1 to k. Assumes nothing.
 use Prim.Native.Nat.{◌-◌}
 use Rattle.algorithm.specs.Table.{count}
 use Rattle.table.specs.Layout.{table_in}

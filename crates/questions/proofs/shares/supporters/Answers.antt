@@ -1,4 +1,4 @@
--- `questions::shares::supporters` meets its contract. The loop's invariant: m has those of the servers 1 to k. Assumes nothing.
+-- `questions::shares::supporters` meets its contract. Assumes nothing.
 use borrow.Author.Rules.{rules}
 use Rattle.questions.proofs.LoopLaws.{passing-none, passing-fits, passing-next, passing-all}
 use Rattle.questions.proofs.shares.supporters.Goals as goal

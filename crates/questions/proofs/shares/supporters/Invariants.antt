@@ -1,4 +1,4 @@
--- `questions::shares::supporters` in turn: what its loop keeps, and what falls.
+-- The loop of `questions::shares::supporters`: m has those of the servers 1 to k. Assumes nothing.
 use Prim.Native.Nat.{◌-◌}
 use Rattle.members.specs.Members.{passing}
 use Rattle.algorithm.specs.Table.{count}

@@ -1,4 +1,4 @@
--- `questions::votes::poll` meets its contract. The loop's invariant: o has those of the servers 1 to k. Assumes nothing.
+-- `questions::votes::poll` meets its contract. Assumes nothing.
 use borrow.Author.Rules.{rules}
 use Rattle.questions.proofs.LoopLaws.{objecting-none, objecting-all}
 use Rattle.questions.proofs.votes.poll.Goals as goal

@@ -1,4 +1,4 @@
--- `reader::fill::fill_servers` in turn: what its loop keeps, and what falls.
+-- The loop of `reader::fill::fill_servers`: what it keeps, and what falls. Assumes nothing.
 use Prim.Native.Nat.{◌-◌}
 use Rattle.reader.proofs.FillLaws.{Filled}
 use Rattle.reader.proofs.fill.fill_servers.Given as goal

@@ -1,4 +1,4 @@
--- `reader::fill::put_log` in turn: what its loop keeps, and what falls.
+-- The loop of `reader::fill::put_log`: what it keeps, and what falls. Assumes nothing.
 use Prim.Native.Nat.{◌-◌}
 use Rattle.reader.proofs.FillLaws.{Logged}
 use Rattle.reader.proofs.fill.put_log.Given as goal

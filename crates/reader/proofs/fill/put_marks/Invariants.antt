@@ -1,4 +1,4 @@
--- `reader::fill::put_marks` in turn: what its loop keeps, and what falls.
+-- The loop of `reader::fill::put_marks`: what it keeps, and what falls. Assumes nothing.
 use Prim.Native.Nat.{◌-◌}
 use Rattle.reader.proofs.FillLaws.{Marking}
 use Rattle.reader.proofs.fill.put_marks.Given as goal

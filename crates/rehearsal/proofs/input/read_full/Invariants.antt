@@ -1,4 +1,4 @@
--- `rehearsal::input::read_full` in turn: what its loop keeps, and what falls.
+-- The loop of `rehearsal::input::read_full`: what it keeps, and what falls. Assumes nothing.
 use Rattle.std.proofs.Common.{◌≡◌, ◌≤◌, ◌-◌, length, take}
 use Rattle.std.specs.Io.KnownBytes.{Consumes}
 use Rattle.rehearsal.proofs.input.read_full.Given as goal

@@ -1,4 +1,4 @@
--- `report::parts::put_marks` in turn: what its loop keeps, and what falls.
+-- The loop of `report::parts::put_marks`: what it keeps, and what falls. Assumes nothing.
 use Prim.Native.Nat.{◌*◌, ◌-◌, ◌≤◌}
 use mathlib.Core.Path.{◌≡◌}
 use lib.ListN.{length, take}

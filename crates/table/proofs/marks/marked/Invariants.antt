@@ -1,4 +1,4 @@
--- `table::marks::marked` in turn: what its loop keeps, and what falls.
+-- The loop of `table::marks::marked`: what it keeps, and what falls. Assumes nothing.
 use Rattle.table.specs.Layout.{table_in}
 use Rattle.table.proofs.MarkLaws.{Bare}
 use Rattle.table.proofs.marks.marked.Given as goal

@@ -1,4 +1,4 @@
--- `whole::fresh::give_set` in turn: what its loop keeps, and what falls.
+-- The loop of `whole::fresh::give_set`: what it keeps, and what falls. Assumes nothing.
 use Prim.Native.Nat.{◌-◌}
 use Rattle.whole.proofs.FreshLaws.{Given}
 use Rattle.whole.proofs.fresh.give_set.Given as goal

@@ -1,4 +1,4 @@
--- `whole::fresh::zero` in turn: what its loop keeps, and what falls.
+-- The loop of `whole::fresh::zero`: what it keeps, and what falls. Assumes nothing.
 use Prim.Native.Nat.{◌-◌}
 use lib.ListN.{length}
 use Rattle.whole.proofs.FreshLaws.{Cleared}

@@ -1,4 +1,4 @@
--- `writer::bodies::put_entries` in turn: what its loop keeps, and what falls.
+-- The loop of `writer::bodies::put_entries`: what it keeps, and what falls. Assumes nothing.
 use Prim.Native.Nat.{◌-◌}
 use Rattle.algorithm.specs.Table.{server}
 use Rattle.table.specs.Layout.{table_in}

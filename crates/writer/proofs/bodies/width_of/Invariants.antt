@@ -1,4 +1,4 @@
--- `writer::bodies::width_of` in turn: what its loop keeps, and what falls.
+-- The loop of `writer::bodies::width_of`: what it keeps, and what falls. Assumes nothing.
 use Prim.Native.Nat.{◌-◌}
 use Rattle.table.specs.Layout.{table_in}
 use Rattle.writer.proofs.RowWords.{Bare}
