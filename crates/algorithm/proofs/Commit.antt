@@ -16,7 +16,7 @@ use Rattle.algorithm.specs.Table.{Table, count, server, mark}
 use Rattle.algorithm.specs.Bytes.{Action, unknown, elect, reconfigure, send, spread, write, fetch, roll_back, commit, stretch, action_of}
 use Rattle.algorithm.specs.Actions.{marked_otherwise, entry_refusals}
 use Rattle.algorithm.specs.Run.{common_refusals, own_refusals, refusals, step}
-use Rattle.algorithm.proofs.Refused.{Fits, common-fit}
+use Rattle.algorithm.proofs.Refusals.{Fits, common-fit}
 use Rattle.algorithm.proofs.Full.{CanCommit}
 use Rattle.algorithm.proofs.Safety.{marked-so}
 use Rattle.algorithm.proofs.Seen.{view}

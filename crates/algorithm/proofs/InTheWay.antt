@@ -17,7 +17,7 @@ use Rattle.algorithm.specs.Table.{Table, count, server, held}
 use Rattle.algorithm.specs.Bytes.{Action, unknown, elect, reconfigure, send, spread, write, fetch, roll_back, commit, stretch, action_of}
 use Rattle.algorithm.specs.Actions.{one_server, larger_term, newer_config, log_ahead, elect_refusals, same_term, apart_shown, majority_refusals, mark_refusals, reconfigure_refusals, send_refusals, spread_refusals, write_refusals, fetch_refusals, roll_back_refusals, opposes_at, commit_refusals}
 use Rattle.algorithm.specs.Run.{taken_shown, common_refusals, own_refusals, answered, step}
-use Rattle.algorithm.proofs.Refused.{Fits, step-each}
+use Rattle.algorithm.proofs.Refusals.{Fits, step-each}
 use Rattle.algorithm.proofs.Seen.{within-width}
 
 -- the numbers that show a server

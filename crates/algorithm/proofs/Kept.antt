@@ -16,7 +16,7 @@ use Rattle.algorithm.specs.Actions.{fetch_refusals, fetch_after, stepped_down, w
 use Rattle.algorithm.specs.Run.{known, after, step}
 use Rattle.words.proofs.RefusalLaws.{NoneHold}
 use Rattle.words.proofs.Lists.{length-replace, every-nth, every-plus, every_take, every-replicate}
-use Rattle.algorithm.proofs.Refused.{Taken, outcome}
+use Rattle.algorithm.proofs.Refusals.{Taken, outcome}
 use Rattle.algorithm.proofs.Seen.{count-voted}
 use Rattle.algorithm.proofs.Fetches.{fetches-keep}
 use Rattle.algorithm.proofs.Sound.{SoundServer, SoundTable, sound-server, table-sound, sound-table, here-sound, with-sound, mark-sound, stepped-sound, voted-sound}

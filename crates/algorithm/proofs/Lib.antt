@@ -1,7 +1,7 @@
 -- What is proved of the algorithm.
 pub mod Answers
 pub mod Worked
-pub mod Refused
+pub mod Refusals
 pub mod Replies
 pub mod InTheWay
 pub mod Logless

@@ -1,64 +1,94 @@
 -- Replies: every answer of the algorithm is one that the enum carries and eight bytes hold, and how a judge's tests give it. Assumes nothing.
 use Prim.Native.Nat.{ℕ, zero, suc, ◌+◌, ◌*◌, ◌/◌, ◌%◌, ◌≤◌, ◌<◌}
-use native.Mathlib.Decide.{ℕ_discrete}
 use native.Mathlib.Omega.{arith}
 use mathlib.Core.Bool.{Bool, true, false, not, cond, ◌&&◌}
 use mathlib.Core.List.{List, [], ◌∷◌, ◌++◌, flatten}
 use mathlib.Core.Path.{◌≡◌, refl, sym, ap, subst, ◌∙◌}
-use mir.Facts.{eqb_yes}
+use mir.Facts.{eqb_yes, eqb_no}
 use lib.Dec.{T, leb, ltb, eqb}
-use lib.ListN.{length, get_or, take, drop}
+use lib.ListN.{length, get_or}
 use lib.Pow.{pow_mono}
-use lib.Seq.{drop-drop}
 use borrow.Author.Rules.{rules}
 use borrow.Author.Tests.{ne_eqb}
 use Rattle.words.specs.Lists.{every, between}
 use Rattle.words.specs.Words.{pair_of, value_of, eight}
 use Rattle.words.specs.Refusal.{Shown, nothing, Refusal, refuse_showing, first, first_shown, Answer, answer, given}
-use Rattle.words.proofs.Tests.{Passes, both, at_most, less, and-told}
+use Rattle.words.proofs.Tests.{Passes, false-fails, both, at_most, less, and-told}
 use Rattle.words.proofs.WordLaws.{eight-value}
 use Rattle.words.proofs.RefusalLaws.{quiet, quiet_each, EachHeld, given-hit, given-miss, turned, either}
 use Rattle.members.specs.Members.{member, within, lowest_in}
 use Rattle.members.specs.Rules.{may_follow, old_apart, new_apart}
 use Rattle.members.proofs.Lowest.{lowest-le}
 use Rattle.members.proofs.Pairs.{some-apart, majority-range}
-use Rattle.algorithm.specs.declared.Reply.{Reply}
-use Rattle.algorithm.specs.declared.Reply.TheVariants.{Taken, Refused, RefusedAt, Apart, Copied}
+use Rattle.std.specs.Prelude.{Result, Ok, Err}
+use Rattle.algorithm.specs.declared.Refused.{Refused}
+use Rattle.algorithm.specs.declared.Refused.TheVariants.{Broken, Unknown, Stray, NoServer, NoSet, Role, NoMajority, LargerTerm, NewerConfig, LogAhead, Ceiling, WithoutLeader, MayNotFollow, Apart, BelowFloor, FewHaveConfig, FewHaveTerm, FewHaveMarked, NotNewer, NotLarger, Full, NothingToFetch, NothingToRollBack, LacksEntry, Opposed, MarkedOtherwise, Short, NotOpened, Servers, NotLaidOut, Unsound, NoRoom}
 use Rattle.algorithm.specs.Table.{Table, count, server, positions}
 use Rattle.algorithm.specs.Bytes.{Action, unknown, elect, reconfigure, send, spread, write, fetch, roll_back, commit, action_of, stretch}
 use Rattle.algorithm.specs.Actions.{one_server, apart_shown, majority_refusals, mark_refusals, send_refusals, spread_refusals, write_refusals, fetch_refusals, roll_back_refusals, copied_shown, fetches}
-use Rattle.algorithm.specs.Run.{answer_of, reply_of, reply_bytes, answer_in, replies_bytes, numbers, common_refusals, own_refusals, answered, step, pieces, answers_in, play, taken_reply, taken_shown}
-use Rattle.algorithm.proofs.Refused.{Fits, step-each}
+use Rattle.algorithm.specs.Run.{told, answer_of, refused_of, result_of, reply_of, verdict_of, reply_bytes, answer_in, replies_bytes, numbers, common_refusals, own_refusals, answered, step, pieces, answers_in, play, taken_shown}
+use Rattle.algorithm.proofs.Refusals.{Fits, step-each}
 use Rattle.algorithm.proofs.Fetches.{copied-most}
 use Rattle.algorithm.proofs.Seen.{within-width}
 use Rattle.algorithm.proofs.Sound.{SoundTable, table-sound, here-sound}
 
--- ---- the code's eight bytes, case by case
+-- ---- the code's eight bytes
 
 -- two bytes make their number again
 half_back : (v : ℕ) → v < 65536 → pair_of (v % 256) (v / 256 % 256) ≡ v
 half_back v h = omega arith
 
-module _ (r : Reply) where
-  pub taken-eight : r ≡ Taken → 0 ≡ value_of (reply_bytes (answer_of r))
-  unfolding value_of
-  taken-eight e = rw e
+-- the number of an answer's eight bytes
+answer-eight : (a : Answer) → a.shown.old < 65536 → a.shown.new < 65536
+    → a.number + 256 * a.shown.server + 65536 * a.shown.copied + 4294967296 * (a.shown.old + 65536 * a.shown.new) ≡ value_of (reply_bytes a)
+unfolding value_of
+answer-eight a h k = omega (arith, half_back a.shown.old h, half_back a.shown.new k)
 
-  pub copied-eight : (n : ℕ) → r ≡ Copied n → 65536 * n ≡ value_of (reply_bytes (answer_of r))
-  unfolding value_of
-  copied-eight n e = rw e (omega arith)
+pub copied-eight : (n : ℕ) → 65536 * n ≡ value_of (reply_bytes (answer_of (Ok n)))
+copied-eight n = omega (arith, answer-eight (answer_of (Ok n)) (omega arith) (omega arith))
 
-  pub refused-eight : (k : ℕ) → r ≡ Refused k → k ≡ value_of (reply_bytes (answer_of r))
-  unfolding value_of
-  refused-eight k e = rw e (omega arith)
+-- of a refusal r that shows two majorities, or nothing; n is its number
+module _ (r : Refused) (n : ℕ) (e : n ≡ (told r).number) where
+  pub apart-eight : (old new : ℕ) → old < 65536 → new < 65536 → r ≡ Apart old new → n + 4294967296 * (old + 65536 * new) ≡ value_of (reply_bytes (told r))
+  apart-eight old new h k o = rw (e, o) (omega (arith, answer-eight (told (Apart old new)) h k))
 
-  pub served-eight : (k s : ℕ) → r ≡ RefusedAt k s → k + 256 * s ≡ value_of (reply_bytes (answer_of r))
-  unfolding value_of
-  served-eight k s e = rw e (omega arith)
+  pub alone-eight : (told r).shown ≡ nothing → n ≡ value_of (reply_bytes (told r))
+  alone-eight is = rw (e, is) (omega (arith, answer-eight (answer (told r).number nothing) (omega arith) (omega arith)))
 
-  pub apart-eight : (old new : ℕ) → old < 65536 → new < 65536 → r ≡ Apart old new → 13 + 4294967296 * (old + 65536 * new) ≡ value_of (reply_bytes (answer_of r))
-  unfolding value_of
-  apart-eight old new h k e = rw e (omega (arith, half_back old h, half_back new k))
+pub shows-nothing : (r : Refused) → ((s : ℕ) → r ≡ LargerTerm s → ⊥) → ((s : ℕ) → r ≡ NewerConfig s → ⊥) → ((s : ℕ) → r ≡ LogAhead s → ⊥)
+    → ((s : ℕ) → r ≡ Opposed s → ⊥) → ((old new : ℕ) → r ≡ Apart old new → ⊥) → (told r).shown ≡ nothing
+shows-nothing Broken a b c d e = refl
+shows-nothing Unknown a b c d e = refl
+shows-nothing Stray a b c d e = refl
+shows-nothing NoServer a b c d e = refl
+shows-nothing NoSet a b c d e = refl
+shows-nothing Role a b c d e = refl
+shows-nothing NoMajority a b c d e = refl
+shows-nothing (LargerTerm s) a b c d e = absurd (a s refl)
+shows-nothing (NewerConfig s) a b c d e = absurd (b s refl)
+shows-nothing (LogAhead s) a b c d e = absurd (c s refl)
+shows-nothing Ceiling a b c d e = refl
+shows-nothing WithoutLeader a b c d e = refl
+shows-nothing MayNotFollow a b c d e = refl
+shows-nothing (Apart old new) a b c d e = absurd (e old new refl)
+shows-nothing BelowFloor a b c d e = refl
+shows-nothing FewHaveConfig a b c d e = refl
+shows-nothing FewHaveTerm a b c d e = refl
+shows-nothing FewHaveMarked a b c d e = refl
+shows-nothing NotNewer a b c d e = refl
+shows-nothing NotLarger a b c d e = refl
+shows-nothing Full a b c d e = refl
+shows-nothing NothingToFetch a b c d e = refl
+shows-nothing NothingToRollBack a b c d e = refl
+shows-nothing LacksEntry a b c d e = refl
+shows-nothing (Opposed s) a b c d e = absurd (d s refl)
+shows-nothing MarkedOtherwise a b c d e = refl
+shows-nothing Short a b c d e = refl
+shows-nothing NotOpened a b c d e = refl
+shows-nothing Servers a b c d e = refl
+shows-nothing NotLaidOut a b c d e = refl
+shows-nothing Unsound a b c d e = refl
+shows-nothing NoRoom a b c d e = refl
 
 -- ---- answers that a reply carries
 
@@ -72,31 +102,48 @@ pub record Carried (a : Answer) : Type 0 where
   pub new : a.shown.new < 65536
 
 -- a number with the server that it shows; 0 is none
-served : (k s : ℕ) → Passes (between 1 255 k) → s < 256 → Carried (answer k (one_server s))
-served k s h below =
-    let (least, most) = both {a = leb 1 k} h in
-    let from : 1 ≤ k = at_most least in
-    let to : k ≤ 255 = at_most most in
-    record { same = rw (ne_eqb k 0 (omega arith)) (same s); number = omega arith; server = below; copied = omega arith; old = omega arith; new = omega arith }
-  where
-    same : (s : ℕ) → answer_of (cond (eqb s 0) (Refused k) (RefusedAt k s)) ≡ answer k (one_server s)
-    same zero = refl
-    same (suc s) = rw (ne_eqb (suc s) 0 (omega arith))
+served : (k s : ℕ) → T (between 1 255 k) → answer_of (reply_of (answer k (one_server s))) ≡ answer k (one_server s) → s < 256 → Carried (answer k (one_server s))
+served k s h same below =
+    let to : k ≤ 255 = at_most (both {a = leb 1 k} (record { yes = h })).1 in
+    record { same = same; number = omega arith; server = below; copied = omega arith; old = omega arith; new = omega arith }
 
-plain : (k : ℕ) → Passes (between 1 255 k) → Carried (answer k nothing)
-plain k h = served k 0 h (omega arith)
+-- the answer is the number k alone
+abbrev is_alone : Answer → ℕ → Bool
+is_alone a k = eqb a.number k && (eqb a.shown.server 0 && (eqb a.shown.copied 0 && (eqb a.shown.old 0 && eqb a.shown.new 0)))
 
-quiet-carried : (rs : List Refusal) → T (every (λ r. between 1 255 r.number) rs) → EachHeld Carried (quiet rs)
-quiet-carried = quiet_each Carried (between 1 255) plain
+its-alone : (a : Answer) (k : ℕ) → Passes (is_alone a k) → a ≡ answer k nothing
+its-alone a k h =
+    let (number, rest) = both {a = eqb a.number k} h in
+    let (server, rest) = both {a = eqb a.shown.server 0} rest in
+    let (copied, rest) = both {a = eqb a.shown.copied 0} rest in
+    let (old, new) = both {a = eqb a.shown.old 0} {b = eqb a.shown.new 0} rest in
+    λ d.
+    record {
+      number = eqb_yes {a = a.number} {b = k} number.yes d;
+      shown =
+          record {
+            server = eqb_yes {a = a.shown.server} {b = 0} server.yes d;
+            copied = eqb_yes {a = a.shown.copied} {b = 0} copied.yes d;
+            old = eqb_yes {a = a.shown.old} {b = 0} old.yes d;
+            new = eqb_yes {a = a.shown.new} {b = 0} new.yes d;
+          };
+    }
 
--- how many were copied fits a byte, and 0 is the same as nothing
+-- the number k is told of its refusal, and nothing else
+abbrev alone : ℕ → Bool
+alone k = between 1 255 k && is_alone (answer_of (reply_of (answer k nothing))) k
+
+plain : (k : ℕ) → Passes (alone k) → Carried (answer k nothing)
+plain k h =
+    let (range, is) = both {a = between 1 255 k} h in
+    served k 0 range.yes (its-alone (answer_of (reply_of (answer k nothing))) k is) (omega arith)
+
+quiet-carried : (rs : List Refusal) → T (every (λ r. alone r.number) rs) → EachHeld Carried (quiet rs)
+quiet-carried = quiet_each Carried alone plain
+
+-- how many were copied fits a byte
 copied-carried : (k : ℕ) → k < 256 → Carried (answer 0 (copied_shown k))
-copied-carried k h =
-    record { same = said (ℕ_discrete k 0); number = omega arith; server = omega arith; copied = h; old = omega arith; new = omega arith }
-  where
-    said : Dec (k ≡ 0) → answer_of (taken_reply (copied_shown k)) ≡ answer 0 (copied_shown k)
-    said (yes e) = rw e
-    said (no n) = rw (ne_eqb k 0 n)
+copied-carried k h = record { same = refl; number = omega arith; server = omega arith; copied = h; old = omega arith; new = omega arith }
 
 -- the majorities that 13 shows are not empty, and fit two bytes
 apart-carried : (R old new : ℕ) → 0 < old → old < 65536 → 0 < new → new < 65536 → Passes (not (may_follow R old new)) → Carried (answer 13 (apart_shown R old new))
@@ -120,18 +167,20 @@ module _ (t : Table) (sound : SoundTable t) where
   set-range {m} w = (less (both {a = ltb 0 m} w).0, omega (arith, within-width {m = m} (count t) w, pow_mono sound.few))
 
   -- a server is one of the table's
-  fault-carried : (k : ℕ) (fault : ℕ → Bool) (q : ℕ) → T (between 1 255 k) → Carried (answer k (one_server (lowest_in (count t) fault q)))
-  fault-carried k fault q h =
-      served k (lowest_in (count t) fault q) (record { yes = h }) (omega (arith, lowest-le (λ s. member s q && fault s) (count t), sound.few))
+  fault-carried : (k : ℕ) (fault : ℕ → Bool) (q : ℕ) → T (between 1 255 k) → ((s : ℕ) → answer_of (reply_of (answer k (one_server s))) ≡ answer k (one_server s))
+      → Carried (answer k (one_server (lowest_in (count t) fault q)))
+  fault-carried k fault q h same =
+      let s = lowest_in (count t) fault q in
+      served k s h (same s) (omega (arith, lowest-le (λ s. member s q && fault s) (count t), sound.few))
 
-  quietly : (k : ℕ) → T (between 1 255 k) → Carried (answer k nothing)
+  quietly : (k : ℕ) → T (alone k) → Carried (answer k nothing)
   quietly k h = plain k (record { yes = h })
 
   own-carried : (a : Action) → Fits (count t) a → EachHeld Carried (own_refusals t a)
   unfolding every
   own-carried unknown fit = tt
   own-carried (elect i q) fit =
-      (λ _. quietly 7 tt, (λ _. fault-carried 8 _ _ tt, (λ _. fault-carried 9 _ _ tt, (λ _. fault-carried 10 _ _ tt, (λ _. quietly 11 tt, tt)))))
+      (λ _. quietly 7 tt, (λ _. fault-carried 8 _ _ tt (λ _. refl), (λ _. fault-carried 9 _ _ tt (λ _. refl), (λ _. fault-carried 10 _ _ tt (λ _. refl), (λ _. quietly 11 tt, tt)))))
   own-carried (reconfigure i m) (i-fits, m-fits) =
       let (a, b) = set-range (here-sound sound i i-fits).config.set in
       let (c, d) = set-range m-fits in
@@ -144,7 +193,7 @@ module _ (t : Table) (sound : SoundTable t) where
   own-carried (fetch i j) fit = quiet-carried (fetch_refusals t i j) tt
   own-carried (roll_back i j) fit = quiet-carried (roll_back_refusals t i j) tt
   own-carried (commit i q) fit =
-      (λ _. quietly 6 tt, (λ _. quietly 7 tt, (λ _. quietly 22 tt, (λ _. fault-carried 23 _ _ tt, (λ _. quietly 24 tt, tt)))))
+      (λ _. quietly 6 tt, (λ _. quietly 7 tt, (λ _. quietly 22 tt, (λ _. fault-carried 23 _ _ tt (λ _. refl), (λ _. quietly 24 tt, tt)))))
   own-carried (stretch i j c) fit = quiet-carried (fetch_refusals t i j) tt
 
 -- nothing is shown
@@ -173,19 +222,21 @@ step-carried t a =
     step-each Carried t a (λ k. taken-carried t (action_of a) k.fit) (quiet-carried (common_refusals t a) tt)
     (λ sound fit. own-carried t (table-sound sound) (action_of a) fit)
 
--- where the reply is taken, no refusal's number is given
-pub taken-number : (a : Answer) → reply_of a ≡ Taken → a.number ≡ 0
-taken-number a e = go (eqb a.number 0) refl (eqb a.shown.server 0) (eqb a.shown.old 0) e
+-- where nothing is refused, no refusal's number is given
+pub taken-number : {A : Type 0} (a : Answer) (x y : A) → result_of a x ≡ Ok y → a.number ≡ 0
+taken-number a x y e = go (eqb a.number 0) refl e
   where
-    bare : Bool → Reply
-    bare d = cond d (Refused a.number) (Apart a.shown.old a.shown.new)
+    go : (b : Bool) → eqb a.number 0 ≡ b → ◌≡◌ {A = Result _ Refused} (cond b (Ok x) (Err (refused_of a))) (Ok y) → a.number ≡ 0
+    go true f e = eqb_yes (subst T (sym f) tt)
+    go false f e = absurd (cc)
 
-    go : (b : Bool) → eqb a.number 0 ≡ b → (c d : Bool) → cond b (taken_reply a.shown) (cond c (bare d) (RefusedAt a.number a.shown.server)) ≡ Taken
-        → a.number ≡ 0
-    go true f c d e = eqb_yes (subst T (sym f) tt)
-    go false f false d e = ap (λ (r : Reply). (answer_of r).number) e
-    go false f true true e = ap (λ (r : Reply). (answer_of r).number) e
-    go false f true false e = let z : ◌≡◌ {A = ℕ} 13 0 = ap (λ (r : Reply). (answer_of r).number) e in absurd (omega arith)
+-- and where something is, it is the answer's
+pub refused-told : {A : Type 0} (a : Answer) (x : A) (r : Refused) → result_of a x ≡ Err r → (r ≡ refused_of a) × (a.number ≡ 0 → ⊥)
+refused-told a x r e = go (eqb a.number 0) refl e
+  where
+    go : (b : Bool) → eqb a.number 0 ≡ b → ◌≡◌ {A = Result _ Refused} (cond b (Ok x) (Err (refused_of a))) (Err r) → (r ≡ refused_of a) × (a.number ≡ 0 → ⊥)
+    go true f e = absurd (cc)
+    go false f e = (cc, λ z. eqb_no (false-fails f).no z)
 
 -- ---- its bytes
 
@@ -231,19 +282,6 @@ play-carried t (a ∷ p) = (step-carried t a, play-carried (step t a).table p)
 
 -- ---- answers told from bytes
 
-pub length-answers : (n : ℕ) (rs : List ℕ) → length (answers_in n rs) ≡ n
-unfolding pieces
-length-answers zero rs = refl
-length-answers (suc n) rs = ap suc (length-answers n (drop 8 rs))
-
-pub answer_at : (n k : ℕ) (rs : List ℕ) → k < n → get_or (answers_in n rs) k (answer 0 nothing) ≡ answer_in (take 8 (drop (8 * k) rs))
-unfolding pieces
-answer_at zero k rs l = absurd (omega arith)
-answer_at (suc n) zero rs l = refl
-answer_at (suc n) (suc k) rs l =
-    let next : 8 * suc k ≡ 8 + 8 * k = omega arith in
-    rw (next, ← drop-drop (8 * k) 8 rs) (answer_at n k (drop 8 rs) (omega arith))
-
 -- from the bytes of some answers these are told, whatever stands behind
 pub answers-back : (rs : List Answer) (rest : List ℕ) → Each Carried rs → answers_in (length rs) (replies_bytes rs ++ rest) ≡ rs
 unfolding replies_bytes flatten pieces
@@ -252,17 +290,17 @@ answers-back (a ∷ rs) rest (c, d) = rw (carried-back c, answers-back rs rest d
 
 -- ---- a judge's tests
 
--- r is the code's answer to the first refusal's test, x its reply
-module _ (k : ℕ) (b : Bool) (s : Shown) (rs : List Refusal) (r : Bool) (e : r ≡ b) (x : Reply) where
-  pub hit : r ≡ true → x ≡ reply_of (answer k s) → x ≡ reply_of (given (refuse_showing k b s ∷ rs))
-  hit o f = f ∙ ap reply_of (sym (given-hit k b s rs r e o))
+-- r is the code's answer to the first refusal's test, x what the judge says
+module _ (k : ℕ) (b : Bool) (s : Shown) (rs : List Refusal) (r : Bool) (e : r ≡ b) (x : Result (Unit {0}) Refused) where
+  pub hit : r ≡ true → x ≡ verdict_of (answer k s) → x ≡ verdict_of (given (refuse_showing k b s ∷ rs))
+  hit o f = f ∙ ap verdict_of (sym (given-hit k b s rs r e o))
 
-  pub miss : r ≡ false → x ≡ reply_of (given rs) → x ≡ reply_of (given (refuse_showing k b s ∷ rs))
-  miss o f = f ∙ ap reply_of (sym (given-miss k b s rs r e o))
+  pub miss : r ≡ false → x ≡ verdict_of (given rs) → x ≡ verdict_of (given (refuse_showing k b s ∷ rs))
+  miss o f = f ∙ ap verdict_of (sym (given-miss k b s rs r e o))
 
-pub none : Taken ≡ reply_of (given [])
+pub none : Ok tt ≡ verdict_of (given [])
 unfolding first first_shown
 none = refl
 
--- what finds the reply from a judge's tests
+-- what finds a judge's words from its tests
 pub ruleset replying = (rules, none, hit, miss, turned, and-told, either)

@@ -15,7 +15,7 @@ use Rattle.algorithm.specs.Bytes.{Action, unknown, elect, reconfigure, send, spr
 use Rattle.algorithm.specs.Run.{after, answered, step, pieces, piece_count, Ran, play, run_to, run, brought_by, along}
 use Rattle.words.proofs.Choice.{put-elim}
 use Rattle.words.proofs.Lists.{nth-replace}
-use Rattle.algorithm.proofs.Refused.{Taken, outcome}
+use Rattle.algorithm.proofs.Refusals.{Taken, outcome}
 use Rattle.algorithm.proofs.Sound.{table-sound, here-sound}
 use Rattle.algorithm.proofs.Fetches.{fetches-keep}
 use Rattle.algorithm.proofs.Kept.{step-sound}

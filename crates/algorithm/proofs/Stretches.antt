@@ -17,7 +17,7 @@ use Rattle.algorithm.specs.Bytes.{stretch, set_of}
 use Rattle.algorithm.specs.Actions.{joins, fetch_refusals, fetch_after, Fetched, fetches}
 use Rattle.algorithm.specs.Cases.{action_bytes}
 use Rattle.algorithm.specs.Run.{known, refusals, after, step, Ran, play}
-use Rattle.algorithm.proofs.Refused.{Taken, taken, refused-stays}
+use Rattle.algorithm.proofs.Refusals.{Taken, taken, refused-stays}
 use Rattle.algorithm.proofs.Fetches.{refused-next, fetches-join, may-join, copied_is, copied-grows}
 use Rattle.algorithm.proofs.Kept.{step-sound}
 use Rattle.algorithm.proofs.Runs.{play-append}

@@ -22,7 +22,7 @@ use Rattle.algorithm.proofs.Logless as logless
 use Rattle.algorithm.proofs.Logless.{core}
 use Rattle.words.proofs.Lists.{length-replace, nth-replace}
 use Rattle.words.proofs.RefusalLaws.{NoneHold, none_before}
-use Rattle.algorithm.proofs.Refused.{Taken, outcome}
+use Rattle.algorithm.proofs.Refusals.{Taken, outcome}
 use Rattle.algorithm.proofs.Logs.{HasEntry, Prefix}
 use Rattle.algorithm.proofs.Full as full
 use Rattle.algorithm.proofs.Full.{View, Settled, CanFetch, CanCommit, LogMoves, then, Moves, sets, logs, rests, one}

@@ -1,34 +1,82 @@
--- The refusals of an action, the reply to it, a run of actions, and the words of demand 3. The enum `Reply` stands in src/lib.rt. Assumes nothing.
-use Rattle.std.specs.Prelude.{ℕ, zero, suc, ◌+◌, ◌/◌, ◌<◌, Bool, cond, not, ◌||◌, ◌&&◌, eqb, length, take, drop}
+-- The refusals of an action, the reply to it, a run of actions, and the words of demand 3. The enum `Refused` stands in src/lib.rt. Assumes nothing.
+use Rattle.std.specs.Prelude.{ℕ, zero, suc, ◌+◌, ◌/◌, ◌<◌, Bool, cond, not, ◌||◌, ◌&&◌, eqb, length, get_or, take, drop, Result, Ok, Err}
 use mathlib.Core.List.{List, [], ◌∷◌, ◌++◌, map, flatten}
 use Rattle.words.specs.Lists.{between}
 use Rattle.words.specs.Words.{half, half_at}
 use Rattle.words.specs.Refusal.{Shown, nothing, Refusal, refuse, Answer, answer, given, unless_refused}
-use Rattle.algorithm.specs.declared.Reply.{Reply}
-use Rattle.algorithm.specs.declared.Reply.TheVariants.{Taken, Refused, RefusedAt, Apart, Copied}
+use Rattle.algorithm.specs.declared.Refused.{Refused}
+use Rattle.algorithm.specs.declared.Refused.TheVariants.{Broken, Unknown, Stray, NoServer, NoSet, Role, NoMajority, LargerTerm, NewerConfig, LogAhead, Ceiling, WithoutLeader, MayNotFollow, Apart, BelowFloor, FewHaveConfig, FewHaveTerm, FewHaveMarked, NotNewer, NotLarger, Full, NothingToFetch, NothingToRollBack, LacksEntry, Opposed, MarkedOtherwise, Short, NotOpened, Servers, NotLaidOut, Unsound, NoRoom}
 use Rattle.algorithm.specs.Table.{Table, count, broken, server}
 use Rattle.algorithm.specs.Bytes.{byte, kind_of, i_of, j_of, set_of, uses_set, uses_j, uses_bake, Action, unknown, elect, reconfigure, send, spread, write, fetch, roll_back, commit, action_of, set_fits, stretch}
 use Rattle.algorithm.specs.Actions.{one_server, two_sets, elect_refusals, reconfigure_refusals, send_refusals, spread_refusals, write_refusals, fetch_refusals, roll_back_refusals, commit_refusals, elect_after, reconfigure_after, send_after, spread_after, write_after, fetch_after, roll_back_after, commit_after, copied_shown, fetches}
 
 -- ---- replies
 
--- the number of a reply, and what it shows
-abbrev pub answer_of : Reply → Answer
-answer_of Taken = answer 0 nothing
-answer_of (Copied k) = answer 0 (copied_shown k)
-answer_of (Refused k) = answer k nothing
-answer_of (RefusedAt k s) = answer k (one_server s)
-answer_of (Apart old new) = answer 13 (two_sets old new)
+-- the number of a refusal, and what it shows
+abbrev pub told : Refused → Answer
+told Broken = answer 1 nothing
+told Unknown = answer 2 nothing
+told Stray = answer 3 nothing
+told NoServer = answer 4 nothing
+told NoSet = answer 5 nothing
+told Role = answer 6 nothing
+told NoMajority = answer 7 nothing
+told (LargerTerm s) = answer 8 (one_server s)
+told (NewerConfig s) = answer 9 (one_server s)
+told (LogAhead s) = answer 10 (one_server s)
+told Ceiling = answer 11 nothing
+told WithoutLeader = answer 12 nothing
+told MayNotFollow = answer 13 nothing
+told (Apart old new) = answer 13 (two_sets old new)
+told BelowFloor = answer 25 nothing
+told FewHaveConfig = answer 14 nothing
+told FewHaveTerm = answer 15 nothing
+told FewHaveMarked = answer 16 nothing
+told NotNewer = answer 17 nothing
+told NotLarger = answer 18 nothing
+told Full = answer 19 nothing
+told NothingToFetch = answer 20 nothing
+told NothingToRollBack = answer 21 nothing
+told LacksEntry = answer 22 nothing
+told (Opposed s) = answer 23 (one_server s)
+told MarkedOtherwise = answer 24 nothing
+told Short = answer 30 nothing
+told NotOpened = answer 31 nothing
+told Servers = answer 32 nothing
+told NotLaidOut = answer 33 nothing
+told Unsound = answer 34 nothing
+told NoRoom = answer 35 nothing
 
--- the reply to an action that is taken: how many entries were copied, where some were
-abbrev pub taken_reply : Shown → Reply
-taken_reply s = cond (eqb s.copied 0) Taken (Copied s.copied)
+-- the number of a reply, and what it shows: of an action that is taken, how many entries were copied
+abbrev pub answer_of : Result ℕ Refused → Answer
+answer_of (Ok k) = answer 0 (copied_shown k)
+answer_of (Err r) = told r
 
--- the reply that gives an answer: of a refusal with the server, where one is shown; the majorities, where some are; and else the number alone
-abbrev pub reply_of : Answer → Reply
-reply_of a =
-    let bare = cond (eqb a.shown.old 0) (Refused a.number) (Apart a.shown.old a.shown.new) in
-    unless_refused a.number (taken_reply a.shown) (cond (eqb a.shown.server 0) bare (RefusedAt a.number a.shown.server))
+-- the refusals by their numbers, 0 and 26 to 29 being none, each with what s shows; 13 is alone where s shows no majorities
+abbrev pub numbered : Shown → List Refused
+numbered s =
+    Broken
+    ∷ Broken ∷ Unknown ∷ Stray ∷ NoServer ∷ NoSet ∷ Role ∷ NoMajority ∷ LargerTerm s.server ∷ NewerConfig s.server ∷ LogAhead s.server
+    ∷ Ceiling ∷ WithoutLeader ∷ cond (eqb s.old 0) MayNotFollow (Apart s.old s.new) ∷ FewHaveConfig ∷ FewHaveTerm ∷ FewHaveMarked ∷ NotNewer
+    ∷ NotLarger ∷ Full ∷ NothingToFetch ∷ NothingToRollBack ∷ LacksEntry ∷ Opposed s.server ∷ MarkedOtherwise ∷ BelowFloor
+    ∷ Broken ∷ Broken ∷ Broken ∷ Broken
+    ∷ Short ∷ NotOpened ∷ Servers ∷ NotLaidOut ∷ Unsound ∷ NoRoom ∷ []
+
+-- the refusal that an answer is
+abbrev pub refused_of : Answer → Refused
+refused_of a = get_or (numbered a.shown) a.number Broken
+
+-- x where the answer refuses nothing, and else its refusal
+abbrev pub result_of : {A : Type 0} → Answer → A → Result A Refused
+result_of a x = unless_refused a.number (Ok x) (Err (refused_of a))
+
+-- the reply that gives an answer
+abbrev pub reply_of : Answer → Result ℕ Refused
+reply_of a = result_of a a.shown.copied
+
+-- what a judge says, who has nothing to tell where nothing is refused
+abbrev pub verdict_of : Answer → Result (Unit {0}) Refused
+verdict_of a = result_of a tt
 
 -- an answer in eight bytes: the number, the server, how many entries were copied, 0, and the two majorities
 abbrev pub reply_bytes : Answer → List ℕ
@@ -100,7 +148,7 @@ abbrev pub order : List ℕ
 order =
     1 ∷ 2 ∷ 3 ∷ 4 ∷ 5 ∷ 6 ∷ 7 ∷ 8 ∷ 9 ∷ 10 ∷ 11 ∷ 12 ∷ 13 ∷ 25 ∷ 14 ∷ 15 ∷ 16 ∷ 17 ∷ 18 ∷ 19 ∷ 20 ∷ 21 ∷ 22 ∷ 23 ∷ 24 ∷ []
 
--- all refusals of the action that the bytes name, in that order (proofs/Refused: lowest-first)
+-- all refusals of the action that the bytes name, in that order (proofs/Refusals: lowest-first)
 unfoldable pub refusals : Table → List ℕ → List Refusal
 refusals t bs = common_refusals t bs ++ own_refusals t (action_of bs)
 

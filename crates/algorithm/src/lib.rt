@@ -1,25 +1,25 @@
-// The vocabulary of the engine: roles, three counters that cannot stand for one another, and the reply to an action.
+// The vocabulary of the engine: roles, three counters that cannot stand for one another, why something is refused, and the reply to an action.
 #![tactic(auto)]
 
-ghost use Rattle.std.specs.Prelude.{◌≡◌, ltb, eqb};
+ghost use Rattle.std.specs.Prelude.{◌≡◌};
 ghost use Rattle.words.specs.Words.{value_of};
-ghost use Rattle.algorithm.specs.Run.{answer_of, reply_bytes};
+ghost use Rattle.algorithm.specs.Run.{told, answer_of, reply_bytes};
 
-// The two roles.
+// The two roles. A role is a number, since a slice and an image may have any in its place until they are judged.
 pub const SECONDARY: u32 = 0;
 
 pub const PRIMARY: u32 = 1;
 
 // A term: of a server, of a configuration, of an entry, of a mark.
-#[derive(Clone, Copy)]
+#[derive(Clone, Copy, PartialEq, Eq, PartialOrd, Ord)]
 pub struct Term(pub u32);
 
 // A version of a configuration.
-#[derive(Clone, Copy)]
+#[derive(Clone, Copy, PartialEq, Eq, PartialOrd, Ord)]
 pub struct Version(pub u32);
 
 // A position in a log, from 1; a log's length is its last one.
-#[derive(Clone, Copy)]
+#[derive(Clone, Copy, PartialEq, Eq, PartialOrd, Ord)]
 pub struct Position(pub u8);
 
 // The largest term and the largest version.
@@ -34,58 +34,121 @@ pub const SERVERS: u8 = 16;
 // The rules by their numbers: 0 is rule 1, and this is rule 2, the last.
 pub const RULE_2: u32 = 1;
 
-// A comparison takes two counters of one kind: a version beside a term does not compile.
-pub fn term_is(a: Term, b: Term) -> bool
-    ensures { result ≡ eqb a.0 b.0 }
-{
-    a.0 == b.0
-}
-
-pub fn term_below(a: Term, b: Term) -> bool
-    ensures { result ≡ ltb a.0 b.0 }
-{
-    a.0 < b.0
-}
-
-pub fn version_is(v: Version, w: Version) -> bool
-    ensures { result ≡ eqb v.0 w.0 }
-{
-    v.0 == w.0
-}
-
-pub fn version_below(v: Version, w: Version) -> bool
-    ensures { result ≡ ltb v.0 w.0 }
-{
-    v.0 < w.0
-}
-
-pub fn position_below(p: Position, q: Position) -> bool
-    ensures { result ≡ ltb p.0 q.0 }
-{
-    p.0 < q.0
-}
-
-// The reply to an action: taken, with the number of entries where a stretch was copied; a refusal's number, for some with the server that
-// stands in the way; or, for refusal 13 where it shows them, a majority of the old set and one of the new without a common server.
-#[derive(Clone, Copy)]
-pub enum Reply {
-    Taken,
-    Copied(u8),
-    Refused(u8),
-    RefusedAt(u8, u8),
+// Why something is refused. Some refusals show who stands in the way: a server, or a majority of the old set and one of the new without a
+// common server. Each has its number (`number`), and a change of sets that may not be has one number, with a pair and without.
+#[derive(Clone, Copy, PartialEq, Eq)]
+pub enum Refused {
+    // The table, and an action's bytes.
+    Broken,
+    Unknown,
+    Stray,
+    NoServer,
+    NoSet,
+    // Who acts, and by which set.
+    Role,
+    NoMajority,
+    // Voters.
+    LargerTerm(u8),
+    NewerConfig(u8),
+    LogAhead(u8),
+    // A term or a version that cannot grow.
+    Ceiling,
+    // A new set, and who has the old configuration.
+    WithoutLeader,
+    MayNotFollow,
     Apart(u16, u16),
+    BelowFloor,
+    FewHaveConfig,
+    FewHaveTerm,
+    FewHaveMarked,
+    // What is sent or spread.
+    NotNewer,
+    NotLarger,
+    // Logs.
+    Full,
+    NothingToFetch,
+    NothingToRollBack,
+    // A commit.
+    LacksEntry,
+    Opposed(u8),
+    MarkedOtherwise,
+    // An image, and the number of servers of a fresh table.
+    Short,
+    NotOpened,
+    Servers,
+    NotLaidOut,
+    Unsound,
+    NoRoom,
 }
+
+impl Refused {
+    pub fn number(self) -> u8
+        ensures { result ≡ (told self).number }
+    {
+        match self {
+            Refused::Broken => 1,
+            Refused::Unknown => 2,
+            Refused::Stray => 3,
+            Refused::NoServer => 4,
+            Refused::NoSet => 5,
+            Refused::Role => 6,
+            Refused::NoMajority => 7,
+            Refused::LargerTerm(_) => 8,
+            Refused::NewerConfig(_) => 9,
+            Refused::LogAhead(_) => 10,
+            Refused::Ceiling => 11,
+            Refused::WithoutLeader => 12,
+            Refused::MayNotFollow => 13,
+            Refused::Apart(_, _) => 13,
+            Refused::BelowFloor => 25,
+            Refused::FewHaveConfig => 14,
+            Refused::FewHaveTerm => 15,
+            Refused::FewHaveMarked => 16,
+            Refused::NotNewer => 17,
+            Refused::NotLarger => 18,
+            Refused::Full => 19,
+            Refused::NothingToFetch => 20,
+            Refused::NothingToRollBack => 21,
+            Refused::LacksEntry => 22,
+            Refused::Opposed(_) => 23,
+            Refused::MarkedOtherwise => 24,
+            Refused::Short => 30,
+            Refused::NotOpened => 31,
+            Refused::Servers => 32,
+            Refused::NotLaidOut => 33,
+            Refused::Unsound => 34,
+            Refused::NoRoom => 35,
+        }
+    }
+
+    // The number and what is shown, as a reply has them in its eight bytes.
+    fn eight_bytes(self) -> u64
+        ensures { result ≡ value_of (reply_bytes (told self)) }
+    {
+        let number = self.number() as u64;
+        match self {
+            Refused::LargerTerm(s)
+            | Refused::NewerConfig(s)
+            | Refused::LogAhead(s)
+            | Refused::Opposed(s) => number + 256 * (s as u64),
+            Refused::Apart(old, new) => {
+                number + 4294967296 * (old as u64 + 65536 * (new as u64))
+            }
+            _ => number,
+        }
+    }
+}
+
+// The reply to an action: taken, with the number of entries that a stretch copied, 0 for any other kind; or refused.
+pub type Reply = Result<u8, Refused>;
 
 // The reply's number: 0 for taken, or the refusal's.
 pub fn number(r: Reply) -> u8
     ensures { result ≡ (answer_of r).number }
 {
     match r {
-        Reply::Taken => 0,
-        Reply::Copied(_) => 0,
-        Reply::Refused(k) => k,
-        Reply::RefusedAt(k, _) => k,
-        Reply::Apart(_, _) => 13,
+        Ok(_) => 0,
+        Err(refused) => refused.number(),
     }
 }
 
@@ -94,10 +157,7 @@ pub fn eight_bytes(r: Reply) -> u64
     ensures { result ≡ value_of (reply_bytes (answer_of r)) }
 {
     match r {
-        Reply::Taken => 0,
-        Reply::Copied(n) => 65536 * (n as u64),
-        Reply::Refused(k) => k as u64,
-        Reply::RefusedAt(k, s) => k as u64 + 256 * (s as u64),
-        Reply::Apart(old, new) => 13 + 4294967296 * (old as u64 + 65536 * (new as u64)),
+        Ok(copied) => 65536 * (copied as u64),
+        Err(refused) => refused.eight_bytes(),
     }
 }

@@ -3,11 +3,12 @@ use Prim.Native.Nat.{ℕ, zero, suc, ◌+◌, ◌/◌, ◌%◌, ◌^◌, ◌≤�
 use native.Mathlib.Decide.{dec_lt}
 use native.Mathlib.Omega.{arith}
 use mathlib.Core.Path.{◌≡◌}
-use mathlib.Core.List.{List, [], ◌∷◌, ◌++◌}
+use mathlib.Core.List.{[], ◌∷◌, ◌++◌}
 use lib.ListN.{length, length-append}
 use borrow.Author.Tests.{lt-ltb, le-ltb}
-use Rattle.buffer.specs.Buffer.{digits, decimal, number_room, Wrote, WroteShort}
-use Rattle.buffer.proofs.WroteLaws.{sized, then}
+use Rattle.buffer.specs.Buffer.{digits, decimal, number_room, Room, Grew}
+use Rattle.buffer.specs.declared.Output.{Output}
+use Rattle.buffer.proofs.WroteLaws.{sized, grown, at_most}
 
 -- more than enough steps make no other digits
 enough : (k j n : ℕ) → n < k → n < j → digits k n ≡ digits j n
@@ -41,18 +42,22 @@ decimal-short (suc k) n h =
 
 -- ---- digits put one behind another
 
-module _ (b b₁ : List ℕ) (at e : ℕ) where
-  pub one-digit : (v : ℕ) → v < 10 → Wrote b b₁ at ((48 + v) ∷ []) e → WroteShort number_room b b₁ at (decimal v) e
-  one-digit v h w = record { wrote = rw (decimal-small v h) w; short = omega (arith, w.end) }
+module _ (o p : Output) where
+  pub one-digit : (v : ℕ) → v < 10 → Grew 1 o p ((48 + v) ∷ []) → Grew number_room o p (decimal v)
+  one-digit v h g = rw (decimal-small v h) (at_most number_room (omega arith) g)
 
   -- nine digits at most leave room for a tenth
-  nine : (x : ℕ) → x < 10 ^ 9 → Wrote b b₁ at (decimal x) e → e < at + number_room
-  nine x h w = omega (arith, w.end, decimal-short 8 x h)
+  nine : (x : ℕ) → x < 10 ^ 9 → Grew number_room o p (decimal x) → p.at < o.at + number_room
+  nine x h g = omega (arith, g.wrote.wrote.end, decimal-short 8 x h)
 
-  pub last-room : (x : ℕ) → x < 10 ^ 9 → at + number_room ≤ length b → Wrote b b₁ at (decimal x) e → e < length b₁
-  last-room x h l w = omega (arith, nine x h w, sized w)
+  pub last-room : (x : ℕ) → x < 10 ^ 9 → Room number_room o → Grew number_room o p (decimal x) → Room 1 p
+  last-room x h r g = omega (arith, nine x h g, sized g.wrote.wrote)
 
-  pub last-digit : (b₂ : List ℕ) (r v : ℕ) → v < 2 ^ 32 → 10 ≤ v → Wrote b b₁ at (decimal (v / 10)) e
-      → Wrote b₁ b₂ e ((48 + v % 10) ∷ []) r → WroteShort number_room b b₂ at (decimal v) r
-  last-digit b₂ r v h l w d =
-      record { wrote = rw (decimal-large v l) (then w d); short = omega (arith, d.end, nine (v / 10) (omega arith) w) }
+  pub last-digit : (q : Output) (v : ℕ) → v < 2 ^ 32 → 10 ≤ v → Grew number_room o p (decimal (v / 10)) → Grew 1 p q ((48 + v % 10) ∷ [])
+      → Grew number_room o q (decimal v)
+  last-digit q v h l g d =
+      let all = grown g d in
+      record {
+        same = all.same;
+        wrote = record { wrote = rw (decimal-large v l) all.wrote.wrote; short = omega (arith, d.wrote.short, nine (v / 10) (omega arith) g) };
+      }

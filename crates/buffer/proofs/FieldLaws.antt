@@ -3,37 +3,38 @@ use Prim.Native.Nat.{ℕ, ◌+◌, ◌*◌, ◌≤◌}
 use mathlib.Core.Path.{◌≡◌, refl, ap, sym, ◌∙◌}
 use mathlib.Core.List.{List, [], ◌∷◌, ◌++◌, append_assoc, append-nil}
 use lib.ListN.{length}
-use Rattle.buffer.specs.Buffer.{text, decimal, number_room, field, field_room, fields, Wrote, WroteShort}
-use Rattle.buffer.proofs.WroteLaws.{wrote_none, exact, then-short}
+use Rattle.buffer.specs.Buffer.{text, decimal, number_room, field, field_room, fields, Grew}
+use Rattle.buffer.specs.declared.Output.{Output}
+use Rattle.buffer.proofs.WroteLaws.{grown, grown_none}
 
-pub a-field : (b b₁ b₂ : List ℕ) (at d e v : ℕ) → Wrote b b₁ at (text " ") d → WroteShort number_room b₁ b₂ d (decimal v) e → WroteShort field_room b b₂ at (field v) e
+pub a-field : (o p q : Output) (v : ℕ) → Grew 1 o p (text " ") → Grew number_room p q (decimal v) → Grew field_room o q (field v)
 unfolding field
-a-field b b₁ b₂ at d e v s w = then-short (exact s) w
+a-field o p q v s g = grown s g
 
 fields-append : (l m : List ℕ) → fields (l ++ m) ≡ fields l ++ fields m
 unfolding fields
 fields-append [] m = refl
 fields-append (x ∷ l) m = ap (λ (r : List ℕ). field x ++ r) (fields-append l m) ∙ sym (append_assoc (field x) (fields l) (fields m))
 
-pub no_fields : (b : List ℕ) (at : ℕ) → at ≤ length b → WroteShort 0 b b at (fields []) at
+pub no_fields : (o : Output) → o.at ≤ length o.buffer.now → Grew 0 o o (fields [])
 unfolding fields
-no_fields b at h = exact (wrote_none b at h)
+no_fields o h = grown_none 0 o h
 
-pub one_field : {n at e : ℕ} {b b₁ : List ℕ} (x : ℕ) → WroteShort n b b₁ at (field x) e → WroteShort n b b₁ at (fields (x ∷ [])) e
+pub one_field : {n : ℕ} {o p : Output} (x : ℕ) → Grew n o p (field x) → Grew n o p (fields (x ∷ []))
 unfolding fields
-one_field x f = rw (append-nil (field x)) f
+one_field x g = rw (append-nil (field x)) g
 
-pub more-fields : {n m at d e : ℕ} {b b₁ b₂ : List ℕ} (l k : List ℕ) → WroteShort n b b₁ at (fields l) d → WroteShort m b₁ b₂ d (fields k) e
-    → WroteShort (n + m) b b₂ at (fields (l ++ k)) e
-more-fields l k f g = rw (fields-append l k) (then-short f g)
+pub more-fields : {n m : ℕ} {o p q : Output} (l k : List ℕ) → Grew n o p (fields l) → Grew m p q (fields k) → Grew (n + m) o q (fields (l ++ k))
+more-fields l k g h = rw (fields-append l k) (grown g h)
 
 -- ---- the figures of a row
 
-pub three-fields : (b b₁ b₂ b₃ : List ℕ) (at c d e x y z : ℕ) → WroteShort field_room b b₁ at (field x) c → WroteShort field_room b₁ b₂ c (field y) d
-    → WroteShort field_room b₂ b₃ d (field z) e → WroteShort (3 * field_room) b b₃ at (fields (x ∷ y ∷ z ∷ [])) e
-three-fields b b₁ b₂ b₃ at c d e x y z f g h =
-    more-fields (x ∷ y ∷ []) (z ∷ []) (more-fields (x ∷ []) (y ∷ []) (one_field x f) (one_field y g)) (one_field z h)
-
-pub six-fields : (b b₁ b₂ : List ℕ) (at d e x y z u v w : ℕ) → WroteShort (3 * field_room) b b₁ at (fields (x ∷ y ∷ z ∷ [])) d
-    → WroteShort (3 * field_room) b₁ b₂ d (fields (u ∷ v ∷ w ∷ [])) e → WroteShort (6 * field_room) b b₂ at (fields (x ∷ y ∷ z ∷ u ∷ v ∷ w ∷ [])) e
-six-fields b b₁ b₂ at d e x y z u v w f g = more-fields (x ∷ y ∷ z ∷ []) (u ∷ v ∷ w ∷ []) f g
+pub six-fields : (o p₁ p₂ p₃ p₄ p₅ p₆ : Output) (x y z u v w : ℕ) → Grew field_room o p₁ (field x) → Grew field_room p₁ p₂ (field y)
+    → Grew field_room p₂ p₃ (field z) → Grew field_room p₃ p₄ (field u) → Grew field_room p₄ p₅ (field v) → Grew field_room p₅ p₆ (field w)
+    → Grew (6 * field_room) o p₆ (fields (x ∷ y ∷ z ∷ u ∷ v ∷ w ∷ []))
+six-fields o p₁ p₂ p₃ p₄ p₅ p₆ x y z u v w g₁ g₂ g₃ g₄ g₅ g₆ =
+    let two = more-fields (x ∷ []) (y ∷ []) (one_field x g₁) (one_field y g₂) in
+    let three = more-fields (x ∷ y ∷ []) (z ∷ []) two (one_field z g₃) in
+    let four = more-fields (x ∷ y ∷ z ∷ []) (u ∷ []) three (one_field u g₄) in
+    let five = more-fields (x ∷ y ∷ z ∷ u ∷ []) (v ∷ []) four (one_field v g₅) in
+    more-fields (x ∷ y ∷ z ∷ u ∷ v ∷ []) (w ∷ []) five (one_field w g₆)

@@ -1,20 +1,17 @@
--- Laws of writing at a place of a buffer: nothing, a byte, one thing behind another, a part of the buffer. Assumes nothing.
-use Prim.Native.Nat.{ℕ, ◌+◌, ◌-◌, ◌≤◌, ◌<◌}
-use native.Mathlib.Numerals.{add-one}
+-- Laws of writing at a place of a buffer: nothing, one thing behind another, a part of the buffer. Assumes nothing.
+use Prim.Native.Nat.{ℕ, ◌+◌, ◌-◌, ◌≤◌}
 use native.Mathlib.Omega.{arith}
 use mathlib.Core.Path.{◌≡◌, refl, ap, sym, ◌∙◌}
-use mathlib.Core.List.{List, [], ◌∷◌, ◌++◌, append_assoc, append-nil}
-use lib.ListN.{length, take, drop, set, length-append, length-drop, take-append-drop}
-use lib.Seq.{length-take-le, take_all, take_at, drop-drop, drop-length, drop-append-add, set_split}
-use Rattle.buffer.specs.Buffer.{Wrote, WroteShort}
+use mathlib.Core.List.{List, [], ◌++◌, append_assoc, append-nil}
+use lib.ListN.{length, take, drop, length-append, length-drop, take-append-drop}
+use lib.Seq.{length-take-le, take_all, take_at, drop-drop, drop-length, drop-append-add}
+use Rattle.buffer.specs.Buffer.{Wrote, WroteShort, Grew}
+use Rattle.buffer.specs.declared.Output.{Output}
 
 -- ---- at one place
 
 pub wrote_none : (b : List ℕ) (at : ℕ) → at ≤ length b → Wrote b b at [] at
 wrote_none b at h = record { end = omega arith; room = h; bytes = sym (take-append-drop at b) }
-
-pub wrote-byte : (b : List ℕ) (at x : ℕ) → at < length b → Wrote b (set b at x) at (x ∷ []) (at + 1)
-wrote-byte b at x h = record { end = omega arith; room = omega arith; bytes = rw (add-one, set_split b at x) }
 
 -- ---- one behind another
 
@@ -59,6 +56,22 @@ exact w = record { wrote = w; short = omega (arith, w.end) }
 pub then-short : {n m at d e : ℕ} {b b₁ b₂ l k : List ℕ} → WroteShort n b b₁ at l d → WroteShort m b₁ b₂ d k e → WroteShort (n + m) b b₂ at (l ++ k) e
 then-short v w = record { wrote = then v.wrote w.wrote; short = omega (arith, v.short, w.short) }
 
+-- ---- by an output
+
+pub grown : {n m : ℕ} {o p q : Output} {l k : List ℕ} → Grew n o p l → Grew m p q k → Grew (n + m) o q (l ++ k)
+grown g h = record { same = h.same ∙ g.same; wrote = then-short g.wrote h.wrote }
+
+pub grown_none : (n : ℕ) (o : Output) → o.at ≤ length o.buffer.now → Grew n o o []
+grown_none n o h = record { same = refl; wrote = record { wrote = wrote_none o.buffer.now o.at h; short = omega arith } }
+
+pub at_most : {n : ℕ} {o p : Output} {l : List ℕ} (m : ℕ) → n ≤ m → Grew n o p l → Grew m o p l
+at_most m h g = record { same = g.same; wrote = record { wrote = g.wrote.wrote; short = omega (arith, g.wrote.short) } }
+
+-- who lends b and finds b' has what was written: no other buffer took the place of b
+pub lent : {n : ℕ} {o p : Output} {b b' l : List ℕ} → Grew n o p l → o.at ≡ 0 → b ≡ o.buffer.now → (o.buffer.ghost_name ≡ p.buffer.ghost_name → b' ≡ p.buffer.now)
+    → Wrote b b' 0 l p.at
+lent g first is last = rw (is, last (sym g.same)) (rw first at g.wrote.wrote)
+
 -- ---- in a part of the buffer, `&mut buffer[at..]`
 
 module _ (b : List ℕ) (at : ℕ) (h : at ≤ length b) where
@@ -80,17 +93,3 @@ module _ (b : List ℕ) (at : ℕ) (h : at ≤ length b) where
         room = omega (arith, w.room, length-drop at b);
         bytes = rw (none, append-nil ys, w.bytes, drop-drop r at b);
       }
-
--- a word copied over a part as long as it is
-pub copied : (b ys w : List ℕ) (at k : ℕ) → at + length w ≤ length b → k ≡ length w → ys ≡ w
-    → Wrote b (take at b ++ (ys ++ drop k (drop at b))) at w (at + length w)
-copied b ys w at k h e f = record { end = refl; room = h; bytes = rw (f, e, drop-drop (length w) at b) }
-
--- ---- what a caller that lends `&buffer[..e]` is asked for
-
-module _ (b b' : List ℕ) (at : ℕ) (l : List ℕ) (e : ℕ) (w : Wrote b b' at l e) where
-  pub wrote-within : e ≤ length b'
-  wrote-within = omega (arith, w.room, sized w)
-
-  pub wrote-lent : e ≡ length (take e b')
-  wrote-lent = sym (length-take-le e b' wrote-within)

@@ -1,6 +1,7 @@
 -- Texts and numbers as bytes, and what is promised of a lent buffer. Assumes nothing.
 use Prim.Native.Char.{code}
 use Rattle.std.specs.Prelude.{ℕ, zero, suc, ◌+◌, ◌/◌, ◌%◌, ◌≤◌, cond, List, [], ◌∷◌, ◌++◌, ◌≡◌, ltb, length, take, drop}
+use Rattle.buffer.specs.declared.Output.{Output}
 use Prim.Native.String.{String}
 use Prim.Native.String as string
 
@@ -47,3 +48,12 @@ pub record Wrote (b b' : List ℕ) (at : ℕ) (l : List ℕ) (e : ℕ) : Type 0 
 pub record WroteShort (n : ℕ) (b b' : List ℕ) (at : ℕ) (l : List ℕ) (e : ℕ) : Type 0 where
   pub wrote : Wrote b b' at l e
   pub short : e ≤ at + n
+
+-- an output has room for n bytes more
+abbrev pub Room : ℕ → Output → Type 0
+Room n o = o.at + n ≤ length o.buffer.now
+
+-- the output o has become p: it has the same buffer, in which l of n bytes at most is written behind what was there
+pub record Grew (n : ℕ) (o p : Output) (l : List ℕ) : Type 0 where
+  pub same : p.buffer.ghost_name ≡ o.buffer.ghost_name
+  pub wrote : WroteShort n o.buffer.now p.buffer.now o.at l p.at

@@ -1,49 +1,52 @@
-// What lines are made of, each put at a place of the buffer. Every function answers the place behind what it wrote.
+// What lines are made of, each put at the place of an output, which then goes behind it.
 #![tactic(auto)]
 
-ghost use Rattle.std.specs.Prelude.{[], ◌∷◌, ◌+◌, ◌≤◌, ◌<◌, length};
-ghost use Rattle.buffer.specs.Buffer.{decimal, number_room, field, field_room, Wrote, WroteShort};
+ghost use Rattle.std.specs.Prelude.{[], ◌∷◌, length};
+ghost use Rattle.buffer.specs.Buffer.{decimal, number_room, field, field_room, Room, Grew};
 
-pub fn put_byte(buffer: &mut [u8], at: usize, x: u8) -> usize
-    requires { at < length buffer.old }
-    ensures { Wrote buffer.old buffer.new at (x ∷ []) result }
-{
-    buffer[at] = x;
-    at + 1
+// A lent buffer, and the place up to which it is written.
+#[derive(Drop)]
+pub struct Output<'a> {
+    pub buffer: &'a mut [u8],
+    pub at: usize,
 }
 
-pub fn put_word(buffer: &mut [u8], at: usize, word: &[u8]) -> usize
-    requires { at + length word.now ≤ length buffer.old }
-    ensures { Wrote buffer.old buffer.new at word.now result }
-{
-    buffer[at..at + word.len()].copy_from_slice(word);
-    at + word.len()
-}
-
-fn put_digit(buffer: &mut [u8], at: usize, d: u32) -> usize
-    requires at_in_bounds { at < length buffer.old }
-    requires d_bound { d < 10 }
-    ensures { Wrote buffer.old buffer.new at ((48 + d) ∷ []) result }
-{
-    put_byte(buffer, at, 48 + d as u8)
-}
-
-// The digits before the last are put first, as the definition has them, so that none is counted or turned around; the calls go ten deep at most.
-pub fn put_decimal(buffer: &mut [u8], at: usize, v: u32) -> usize
-    requires { at + number_room ≤ length buffer.old }
-    ensures { WroteShort number_room buffer.old buffer.new at (decimal v) result }
-{
-    if v < 10 {
-        return put_digit(buffer, at, v);
+impl<'a> Output<'a> {
+    pub fn put_byte(&mut self, x: u8)
+        requires { Room 1 self.old }
+        ensures { Grew 1 self.old self.new (x ∷ []) }
+    {
+        self.buffer[self.at] = x;
+        self.at += 1;
     }
-    let end = put_decimal(buffer, at, v / 10);
-    put_digit(buffer, end, v % 10)
-}
 
-pub fn put_field(buffer: &mut [u8], at: usize, v: u32) -> usize
-    requires { at + field_room ≤ length buffer.old }
-    ensures { WroteShort field_room buffer.old buffer.new at (field v) result }
-{
-    let end = put_byte(buffer, at, b' ');
-    put_decimal(buffer, end, v)
+    pub fn put_word(&mut self, word: &[u8])
+        requires { Room (length word.now) self.old }
+        ensures { Grew (length word.now) self.old self.new word.now }
+    {
+        let end = self.at + word.len();
+        self.buffer[self.at..end].copy_from_slice(word);
+        self.at = end;
+    }
+
+    // The digits before the last are put first, as the definition has them, so that none is counted or turned around; the calls go ten deep at most.
+    pub fn put_decimal(&mut self, v: u32)
+        requires { Room number_room self.old }
+        ensures { Grew number_room self.old self.new (decimal v) }
+    {
+        if v < 10 {
+            self.put_byte(b'0' + v as u8);
+            return;
+        }
+        self.put_decimal(v / 10);
+        self.put_byte(b'0' + (v % 10) as u8);
+    }
+
+    pub fn put_field(&mut self, v: u32)
+        requires { Room field_room self.old }
+        ensures { Grew field_room self.old self.new (field v) }
+    {
+        self.put_byte(b' ');
+        self.put_decimal(v);
+    }
 }

@@ -1,3 +1,2 @@
 -- The laws of comparisons.
 pub mod LogLaws
-pub mod FigureLaws

@@ -1,147 +1,119 @@
 // One server's role, and one server beside another: terms, configurations and logs.
 #![tactic(auto)]
 
-ghost use Rattle.std.specs.Prelude.{◌≡◌, not, ◌≤◌, eqb};
-ghost use Rattle.algorithm.specs.Table.{server, positions, later, held, prefix};
+ghost use Rattle.std.specs.Prelude.{◌≡◌, not, ◌≤◌, eqb, ltb, ◌||◌, ◌&&◌};
+ghost use Rattle.std.specs.Ordering.{partial_lt};
+ghost use Rattle.algorithm.specs.Table.{server, positions, held, prefix};
 ghost use Rattle.algorithm.specs.Actions.{larger_term, newer_config, log_ahead, same_config, same_term, supports_at, joins as joins_of};
-ghost use Rattle.table.specs.Layout.{table_in};
-ghost use Rattle.table.specs.Slice.{Held, Within};
+ghost use Rattle.table.specs.Slice.{Within};
 
-use algorithm::{
-    Position, Term, Version, position_below, term_below, term_is, version_below, version_is,
-};
-use table::rows::{config_of, entry_of, last_of, length_of, role_of, term_of, version_of};
+use algorithm::{Position, Term};
+use table::Table;
 
 // Server i has another role: refusal 6.
-pub fn lacks_role(t: &[u8], i: usize, role: u32) -> bool
-    requires held { Held t.now }
+pub fn lacks_role(t: &Table<'_>, i: usize, role: u32) -> bool
     requires within { Within t.now i }
-    ensures { result ≡ not (eqb (server (table_in t.now) i).role role) }
+    ensures { result ≡ not (eqb (server t.now i).role role) }
 {
-    role_of(t, i) != role
+    t.role(i) != role
 }
 
-fn is_newer(a: Term, v: Version, b: Term, w: Version) -> bool
-    ensures { result ≡ later a.0 v.0 b.0 w.0 }
-{
-    term_below(b, a) | term_is(a, b) & version_below(w, v)
-}
-
-fn is_ahead(a: Term, b: Term, p: Position, q: Position) -> bool
-    ensures { result ≡ later a.0 p.0 b.0 q.0 }
-{
-    term_below(b, a) | term_is(a, b) & position_below(q, p)
-}
-
-pub fn larger_term(t: &[u8], i: usize, s: usize) -> bool
-    requires held { Held t.now }
+pub fn larger_term(t: &Table<'_>, i: usize, s: usize) -> bool
     requires within { Within t.now i }
     requires within_2 { Within t.now s }
-    ensures { result ≡ larger_term (table_in t.now) i s }
+    ensures { result ≡ larger_term t.now i s }
 {
-    term_below(term_of(t, i), term_of(t, s))
+    t.term(i) < t.term(s)
 }
 
-pub fn newer_config(t: &[u8], i: usize, s: usize) -> bool
-    requires held { Held t.now }
-    requires within { Within t.now i }
-    requires within_2 { Within t.now s }
-    ensures { result ≡ newer_config (table_in t.now) i s }
+// The pair of a and v is below that of b and w. Tuples have this order too, but with branches: a poll takes an eighth more instructions.
+fn is_below<T: PartialOrd + Copy>(a: Term, v: T, b: Term, w: T) -> bool
+    ensures { result ≡ (ltb a.0 b.0 || eqb a.0 b.0 && partial_lt T.partial_cmp v w) }
 {
-    is_newer(
-        config_of(t, s),
-        version_of(t, s),
-        config_of(t, i),
-        version_of(t, i),
-    )
+    (a < b) | (a == b) & (v < w)
 }
 
-pub fn log_ahead(t: &[u8], i: usize, s: usize) -> bool
-    requires held { Held t.now }
+pub fn newer_config(t: &Table<'_>, i: usize, s: usize) -> bool
     requires within { Within t.now i }
     requires within_2 { Within t.now s }
-    ensures { result ≡ log_ahead (table_in t.now) i s }
+    ensures { result ≡ newer_config t.now i s }
 {
-    is_ahead(
-        last_of(t, s),
-        last_of(t, i),
-        length_of(t, s),
-        length_of(t, i),
-    )
+    is_below(t.config(i), t.version(i), t.config(s), t.version(s))
 }
 
-pub fn same_config(t: &[u8], i: usize, s: usize) -> bool
-    requires held { Held t.now }
+pub fn log_ahead(t: &Table<'_>, i: usize, s: usize) -> bool
     requires within { Within t.now i }
     requires within_2 { Within t.now s }
-    ensures { result ≡ same_config (table_in t.now) i s }
+    ensures { result ≡ log_ahead t.now i s }
 {
-    version_is(version_of(t, s), version_of(t, i)) & term_is(config_of(t, s), config_of(t, i))
+    is_below(t.last(i), t.length(i), t.last(s), t.length(s))
 }
 
-pub fn same_term(t: &[u8], i: usize, s: usize) -> bool
-    requires held { Held t.now }
+pub fn same_config(t: &Table<'_>, i: usize, s: usize) -> bool
     requires within { Within t.now i }
     requires within_2 { Within t.now s }
-    ensures { result ≡ same_term (table_in t.now) i s }
+    ensures { result ≡ same_config t.now i s }
 {
-    term_is(term_of(t, s), term_of(t, i))
+    (t.version(s) == t.version(i)) & (t.config(s) == t.config(i))
+}
+
+pub fn same_term(t: &Table<'_>, i: usize, s: usize) -> bool
+    requires within { Within t.now i }
+    requires within_2 { Within t.now s }
+    ensures { result ≡ same_term t.now i s }
+{
+    t.term(s) == t.term(i)
 }
 
 // The log of server s has the term at a position.
-pub fn holds(t: &[u8], s: usize, p: Position, term: Term) -> bool
-    requires held { Held t.now }
+pub fn holds(t: &Table<'_>, s: usize, p: Position, term: Term) -> bool
     requires within { Within t.now s }
     requires p_le_positions { p.0 ≤ positions }
-    ensures { result ≡ held (server (table_in t.now) s).log p.0 term.0 }
+    ensures { result ≡ held (server t.now s).log p.0 term.0 }
 {
     if p.0 == 0 {
         return false;
     }
-    !position_below(length_of(t, s), p) & term_is(entry_of(t, s, p), term)
+    (p <= t.length(s)) & (t.entry(s, p) == term)
 }
 
 // Server s has the term of server i, and an entry of it at a position.
-pub fn supports(t: &[u8], i: usize, s: usize, p: Position) -> bool
-    requires held { Held t.now }
+pub fn supports(t: &Table<'_>, i: usize, s: usize, p: Position) -> bool
     requires within { Within t.now i }
     requires within_2 { Within t.now s }
     requires p_le_positions { p.0 ≤ positions }
-    ensures { result ≡ supports_at (table_in t.now) i p.0 s }
+    ensures { result ≡ supports_at t.now i p.0 s }
 {
-    same_term(t, i, s) & holds(t, s, p, term_of(t, i))
+    same_term(t, i, s) & holds(t, s, p, t.term(i))
 }
 
 // The log of server i is empty, or its last entry is that of server j at that position.
-pub fn joins(t: &[u8], i: usize, j: usize) -> bool
-    requires held { Held t.now }
+pub fn joins(t: &Table<'_>, i: usize, j: usize) -> bool
     requires within { Within t.now i }
     requires within_2 { Within t.now j }
-    ensures { result ≡ joins_of (server (table_in t.now) i).log (server (table_in t.now) j).log }
+    ensures { result ≡ joins_of (server t.now i).log (server t.now j).log }
 {
-    let p = length_of(t, i);
+    let p = t.length(i);
     if p.0 == 0 {
         return true;
     }
-    term_is(last_of(t, i), entry_of(t, j, p))
+    t.last(i) == t.entry(j, p)
 }
 
 // The log of server i is the beginning of that of server j.
-pub fn is_prefix(t: &[u8], i: usize, j: usize) -> bool
-    requires held { Held t.now }
+pub fn is_prefix(t: &Table<'_>, i: usize, j: usize) -> bool
     requires within { Within t.now i }
     requires within_2 { Within t.now j }
-    ensures { result ≡ prefix (server (table_in t.now) i).log (server (table_in t.now) j).log }
+    ensures { result ≡ prefix (server t.now i).log (server t.now j).log }
 {
-    let n = length_of(t, i);
-    if position_below(length_of(t, j), n) {
+    let n = t.length(i);
+    if t.length(j) < n {
         return false;
     }
     let mut ok = true;
-    let mut k: u8 = 0;
-    while k < n.0 {
-        k += 1;
-        ok = ok & term_is(entry_of(t, i, Position(k)), entry_of(t, j, Position(k)));
+    for k in 0..n.0 {
+        let p = Position(k + 1);
+        ok = ok & (t.entry(i, p) == t.entry(j, p));
     }
     ok
 }

@@ -1,4 +1,3 @@
 -- The laws of the doers.
-pub mod PutLaws
 pub mod VoteLaws
 pub mod StretchLaws

@@ -1,32 +1,19 @@
 -- Laws of an election: the voters step down one server after another, and then the winner's row is put. Assumes nothing.
-use Prim.Native.Nat.{ℕ, zero, suc, ◌+◌, ◌≤◌, ◌<◌}
-use native.Mathlib.Numerals.{add-one}
+use Prim.Native.Nat.{ℕ, zero, suc, ◌+◌}
 use native.Mathlib.Omega.{arith}
-use mathlib.Core.Path.{◌≡◌, refl, ap, ◌∙◌}
-use mathlib.Core.Bool.{Bool, true, false, cond}
+use mathlib.Core.Path.{◌≡◌, refl, ap, sym, ◌∙◌}
+use mathlib.Core.Bool.{true, false, cond}
 use mathlib.Core.List.{List, [], ◌∷◌}
 use lib.ListN.{length, get_or, set}
-use Rattle.members.specs.Members.{bit, member, within}
+use Rattle.members.specs.Members.{member, within}
 use Rattle.words.specs.Lists.{nth, replace}
-use Rattle.algorithm.specs.Table.{Config, Server, Table, count, absent, server, with_server, with_role, with_term, with_config, with_servers, config_of}
+use Rattle.algorithm.specs.Table.{Server, Table, count, absent, server, with_server, changed, with_role, with_term, with_config, with_servers, config_of}
 use Rattle.algorithm.specs.Actions.{stepped_down, voters_from, voted, elect_after}
 use Rattle.algorithm.proofs.Seen.{log-voted}
 use Rattle.table.specs.Layout.{table_in}
-use Rattle.table.specs.Slice.{Holds, Held, Became, Within, seen}
-use Rattle.table.specs.declared.rows.Row.{Row}
+use Rattle.table.specs.Slice.{Holds, Held, Became, Within}
 use Rattle.words.proofs.Lists.{replace-nth}
-use Rattle.table.proofs.HeldLaws.{its-table}
-use Rattle.doers.proofs.PutLaws.{then-put}
-
--- ---- one server
-
-module _ (b : List ℕ) (s v : ℕ) (votes : Bool) where
-  pub vote-yes : (b' : List ℕ) → votes ≡ true → Became b b' (with_server (table_in b) s (stepped_down v (server (table_in b) s)))
-      → Became b b' (with_server (table_in b) s (cond votes (stepped_down v (server (table_in b) s)) (server (table_in b) s)))
-  vote-yes b' e h = rw e h
-
-  pub vote-no : votes ≡ false → Held b → Became b b (with_server (table_in b) s (cond votes (stepped_down v (server (table_in b) s)) (server (table_in b) s)))
-  vote-no e h = rw (e, replace-nth (table_in b).servers s absent) (record { holds = h; held = h; same = refl })
+use Rattle.table.proofs.HeldLaws.{its-table, again}
 
 -- ---- one server after another
 
@@ -60,44 +47,57 @@ module _ (q v : ℕ) where
   all-voted (suc k) p [] e = refl
   all-voted (suc k) p (s ∷ ss) e = ap (λ (l : List Server). cond (member p q) (stepped_down v s) s ∷ l) (all-voted k (suc p) ss (omega arith))
 
-abbrev pub voted_to : ℕ → Table → ℕ → ℕ → Table
-voted_to k t q v = with_servers (partly k 1 q v t.servers) t
+-- in the slice b, which was b₀, the servers before s have voted
+pub record Voted (b₀ : List ℕ) (q v : ℕ) (b : List ℕ) (s : ℕ) : Type 0 where
+  pub voters : ℕ
+  pub next : s ≡ suc voters
+  pub became : Became b₀ b (with_servers (partly voters 1 q v (table_in b₀).servers) (table_in b₀))
 
--- after k of n servers
-pub record Voted (b₀ : List ℕ) (q v n : ℕ) (b : List ℕ) (k : ℕ) : Type 0 where
-  pub became : Became b₀ b (voted_to k (table_in b₀) q v)
-  pub most : k ≤ n
-  pub all : n ≡ count (table_in b₀)
-
-pub voted-none : (b : List ℕ) (q v n : ℕ) → Held b → n ≡ count (table_in b) → Voted b q v n b 0
+pub voted-none : (b : List ℕ) (q v : ℕ) → Held b → Voted b q v b 1
 unfolding partly
-voted-none b q v n h e = record { became = record { holds = h; held = h; same = refl }; most = omega arith; all = e }
+voted-none b q v h = record { voters = 0; next = refl; became = record { holds = h; held = h; same = refl } }
 
-module _ (b₀ b : List ℕ) (q v n k : ℕ) (h : Voted b₀ q v n b k) where
-  pub voted-more : (b' : List ℕ) → k < n
-      → Became b b' (with_server (table_in b) (k + 1) (cond (bit k q) (stepped_down v (server (table_in b) (k + 1))) (server (table_in b) (k + 1))))
-      → Voted b₀ q v n b' (k + 1)
+module _ (b₀ b : List ℕ) (q v s : ℕ) (h : Voted b₀ q v b s) where
+  -- the next server, put as its vote says
+  next-put : with_server (table_in b) s (cond (member s q) (stepped_down v (server (table_in b) s)) (server (table_in b) s))
+      ≡ with_servers (partly (suc h.voters) 1 q v (table_in b₀).servers) (table_in b₀)
   unfolding nth replace
-  voted-more b' l g =
+  next-put =
       let t = table_in b₀ in
-      let next : with_server (table_in b) (k + 1) (cond (bit k q) (stepped_down v (server (table_in b) (k + 1))) (server (table_in b) (k + 1))) ≡ voted_to (k + 1) t q v =
-      rw (its-table h.became.holds, add-one, next-server q v k 1 t.servers, next-vote q v k 1 (suc k) t.servers (omega arith)) in
-      record { became = record { holds = rw next at g.holds; held = g.held; same = g.same ∙ h.became.same }; most = omega arith; all = h.all }
+      rw (h.next, its-table h.became.holds, next-server q v h.voters 1 t.servers, next-vote q v h.voters 1 (suc h.voters) t.servers (omega arith))
 
-  pub voted-all : n ≤ k → Became b₀ b (voted (table_in b₀) q v)
-  voted-all l = rw (← all-voted q v k 1 (table_in b₀).servers (omega arith)) h.became
+  pub vote-more : (b' : List ℕ) → true ≡ member s q → Became b b' (changed (table_in b) s (stepped_down v)) → Voted b₀ q v b' (s + 1)
+  vote-more b' e g =
+      record {
+        voters = suc h.voters;
+        next = omega (arith, h.next);
+        became = record { holds = rw (← next-put, ← e) g.holds; held = g.held; same = g.same ∙ h.became.same };
+      }
+
+  pub vote-none : false ≡ member s q → Voted b₀ q v b (s + 1)
+  vote-none e =
+      let same : table_in b ≡ with_servers (partly (suc h.voters) 1 q v (table_in b₀).servers) (table_in b₀) =
+      sym (ap (λ (ss : List Server). with_servers ss (table_in b)) (replace-nth (table_in b).servers s absent)) ∙ rw (← e) at next-put in
+      record {
+        voters = suc h.voters;
+        next = omega (arith, h.next);
+        became = record { holds = rw (← same) h.became.held; held = h.became.held; same = h.became.same };
+      }
+
+-- the last server, n, has voted
+pub voted-all : (b₀ b : List ℕ) (q v n s : ℕ) (t : Table) → n ≡ count t → t ≡ table_in b₀ → Voted b₀ q v b s → s ≡ n + 1 → Became b₀ b (voted (table_in b₀) q v)
+voted-all b₀ b q v n s t e is h l = rw (← all-voted q v h.voters 1 (table_in b₀).servers (omega (arith, h.next, ap count is))) h.became
 
 -- ---- the winner
 
-pub elect-put : (b b₁ b₂ b₃ : List ℕ) (i q : ℕ) (a : Row) → a ≡ seen (server (table_in b) i) → Within b i → within q (count (table_in b)) ≡ true
-    → Became b b₁ (voted (table_in b) q (a.figures.term.0 + 1))
-    → Became b₁ b₂ (with_server (table_in b₁) i (with_role 1 (with_term (a.figures.term.0 + 1) (server (table_in b₁) i))))
-    → Became b₂ b₃ (with_server (table_in b₂) i (with_config (config_of a.figures.set a.figures.version.0 (a.figures.term.0 + 1)) (server (table_in b₂) i)))
+pub elect-put : (b b₁ b₂ b₃ : List ℕ) (i q T m v : ℕ) → Within (table_in b) i → within q (count (table_in b)) ≡ true
+    → Became b b₁ (voted (table_in b) q (T + 1))
+    → Became b₁ b₂ (changed (table_in b₁) i (λ s. with_role 1 (with_term (T + 1) s)))
+    → Became b₂ b₃ (changed (table_in b₂) i (with_config (config_of m v (T + 1))))
+    → T ≡ (server (table_in b) i).term → m ≡ (server (table_in b) i).config.set → v ≡ (server (table_in b) i).config.version
     → Holds b₃ (elect_after (table_in b) i q)
-elect-put b b₁ b₂ b₃ i q a e w sets h k l =
+elect-put b b₁ b₂ b₃ i q T m v w sets h k l et em ev =
     let t = table_in b in
-    let T : ℕ = a.figures.term.0 + 1 in
-    let C : Config = config_of a.figures.set a.figures.version.0 T in
-    let here : Within b₁ i = record { some = w.some; known = omega (arith, w.known, h.same) } in
-    let put = (then-put (with_role 1 (with_term T (server (table_in b₁) i))) (with_config C) here k l).holds in
-    rw e at (rw (its-table h.holds, log-voted q T t (record { yes = rw sets tt }) i) at put)
+    let here : Within (table_in b₁) i = record { some = w.some; known = omega (arith, w.known, h.same) } in
+    let put = (again (λ s. with_role 1 (with_term (T + 1) s)) (with_config (config_of m v (T + 1))) here k l).holds in
+    rw (et, em, ev) at (rw (its-table h.holds, log-voted q (T + 1) t (record { yes = rw sets tt }) i) at put)

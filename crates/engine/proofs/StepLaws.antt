@@ -1,54 +1,54 @@
 -- Laws of one step: an action is read, then judged, then done. Assumes nothing.
 use Prim.Native.Nat.{ℕ}
 use mathlib.Core.Bool.{false}
-use mathlib.Core.Path.{◌≡◌, ap, ap₂, sym, ◌∙◌}
+use mathlib.Core.Path.{◌≡◌, ap, sym, ◌∙◌}
 use mathlib.Core.List.{List, ◌++◌}
 use lib.Dec.{eqb}
 use borrow.Author.Tests.{ne_eqb}
 use Rattle.words.specs.Lists.{every}
-use Rattle.words.specs.Refusal.{nothing, first, first_shown, Answer, answer, given}
+use Rattle.words.specs.Refusal.{first, first_shown, Answer, given}
 use Rattle.words.proofs.Tests.{fails-false, false-fails}
-use Rattle.words.proofs.RefusalLaws.{none-hold, given-held, given-none, quiet-shown}
-use Rattle.algorithm.specs.declared.Reply.{Reply}
-use Rattle.algorithm.specs.declared.Reply.TheVariants.{Taken, Refused}
-use Rattle.algorithm.specs.Run.{answer_of, reply_of, form_refusals, common_refusals, own_refusals, refusals, after, taken_shown, answered, outcome_by, step}
-use Rattle.algorithm.specs.Table.{count}
+use Rattle.words.proofs.RefusalLaws.{none-hold, given-held, given-none}
+use Rattle.std.specs.Prelude.{Result, Ok, Err}
+use Rattle.algorithm.specs.declared.Refused.{Refused}
+use Rattle.algorithm.specs.Run.{answer_of, verdict_of, form_refusals, common_refusals, own_refusals, refusals, after, taken_shown, answered, outcome_by, step}
+use Rattle.algorithm.specs.Table.{Table, count}
 use Rattle.algorithm.specs.Bytes.{Action, action_of}
-use Rattle.algorithm.proofs.Refused.{none-given, common-fit}
+use Rattle.algorithm.proofs.Refusals.{common-fit}
 use Rattle.algorithm.proofs.Kept.{step-sound}
-use Rattle.algorithm.proofs.Replies.{taken-number, step-carried}
+use Rattle.algorithm.proofs.Replies.{taken-number, refused-told, step-carried}
 use Rattle.table.specs.Layout.{table_in}
 use Rattle.table.specs.Slice.{Holds, Held}
 use Rattle.table.proofs.HeldLaws.{its-table, held}
 use Rattle.form.specs.declared.Asked.{Asked}
-use Rattle.form.specs.declared.Form.{Form}
-use Rattle.form.specs.declared.Form.TheVariants as form
 use Rattle.form.specs.Form.{named, form_of}
 use Rattle.form.proofs.FormLaws.{told-refused, told-asks}
 use Rattle.engine.specs.Engine.{Ready, Fitting, own_outcome, Answered, Stepped}
 use Rattle.engine.proofs.AskedLaws.{fits}
 
 -- the reply carries the algorithm's answer
-pub step-answer : {b a b' : List ℕ} {r : Reply} → Stepped b a r b' → answer_of r ≡ answered (step (table_in b) a)
+pub step-answer : {b a b' : List ℕ} {r : Result ℕ Refused} → Stepped b a r b' → answer_of r ≡ answered (step (table_in b) a)
 step-answer {b} {a} s = ap answer_of s.reply ∙ (step-carried (table_in b) a).same
 
 -- ---- what is asked, judged and done
 
-module _ (b : List ℕ) (x : Asked) (own : Reply) (judged : own ≡ reply_of (given (own_refusals (table_in b) (named x)))) where
-  -- where it is taken, no refusal of its kind's own holds
-  pub none-refuses : own ≡ Taken → first (own_refusals (table_in b) (named x)) ≡ 0
-  none-refuses e = taken-number (given (own_refusals (table_in b) (named x))) (sym judged ∙ e)
+module _ (b : List ℕ) (x : Asked) (own : Result (Unit {0}) Refused) (t : Table) (of : t ≡ table_in b) (said : own ≡ verdict_of (given (own_refusals t (named x)))) where
+  judged : own ≡ verdict_of (given (own_refusals (table_in b) (named x)))
+  judged = said ∙ ap (λ (u : Table). verdict_of (given (own_refusals u (named x)))) of
 
-  pub own-refused : Held b → (own ≡ Taken → ⊥) → Answered b x own b
-  own-refused h n =
-      let k : ℕ = first (own_refusals (table_in b) (named x)) in
-      let z : eqb k 0 ≡ false = ne_eqb k 0 (λ o. n (judged ∙ ap reply_of (none-given (table_in b) (named x) o))) in
-      let same : answered (own_outcome (table_in b) x) ≡ given (own_refusals (table_in b) (named x)) = rw z in
-      record { reply = judged ∙ ap reply_of (sym same); table = rw z h }
+  -- where nothing is refused, no refusal of its kind's own holds
+  pub none-refuses : (u : Unit {0}) → own ≡ Ok u → first (own_refusals (table_in b) (named x)) ≡ 0
+  none-refuses u e = taken-number (given (own_refusals (table_in b) (named x))) tt u (sym judged ∙ e)
 
-  pub own-taken : (r : Reply) (b' : List ℕ) → own ≡ Taken
-      → (r ≡ reply_of (answer 0 (taken_shown (table_in b) (named x)))) × Holds b' (after (table_in b) (named x)) → Answered b x r b'
-  own-taken r b' e (told, w) = record { reply = rw (none-refuses e) told; table = rw (none-refuses e) w }
+  pub own-refused : Held b → (r : Refused) → own ≡ Err r → Answered b x (Err r) b
+  own-refused h r e =
+      let (is, other) = refused-told (given (own_refusals (table_in b) (named x))) tt r (sym judged ∙ e) in
+      let z : eqb (first (own_refusals (table_in b) (named x))) 0 ≡ false = ne_eqb _ 0 other in
+      record { reply = rw (z, is); table = rw z h }
+
+  pub own-taken : (k : ℕ) (u : Unit {0}) (b' : List ℕ) → own ≡ Ok u → (k ≡ (taken_shown (table_in b) (named x)).copied) × Holds b' (after (table_in b) (named x))
+      → Answered b x (Ok k) b'
+  own-taken k u b' e (told, w) = let none = none-refuses u e in record { reply = rw (none, told); table = rw none w }
 
 -- ---- one step
 
@@ -63,27 +63,26 @@ module _ (b a : List ℕ) (h : Ready b) where
   unfolding step
   given_so x e = ap (λ (y : Answer). outcome_by (table_in b) y (action_of a)) (whole ∙ e)
 
-  module _ (n : ℕ) (counts : n ≡ count (table_in b)) (f : Form) (read : f ≡ form_of n a) where
-    told : (g : Form) → f ≡ g → form_of (count (table_in b)) a ≡ g
-    told g e = rw (← counts) (sym read ∙ e)
+  module _ (n : ℕ) (u : Table) (of : u ≡ table_in b) (counts : n ≡ count u) (f : Result Asked Refused) (read : f ≡ form_of n a) where
+    told : (g : Result Asked Refused) → f ≡ g → form_of (count (table_in b)) a ≡ g
+    told g e = rw (← of, ← counts) (sym read ∙ e)
 
-    pub form-refused : (k : ℕ) → f ≡ form.Refused k → Stepped b a (Refused k) b
-    form-refused k e =
+    pub form-refused : (r : Refused) → f ≡ Err r → Stepped b a (Err r) b
+    form-refused r e =
         let forms = form_refusals (count (table_in b)) a in
-        let (is, other) = told-refused (count (table_in b)) a k (told (form.Refused k) e) in
-        let refused : step (table_in b) a ≡ outcome_by (table_in b) (answer k nothing) (action_of a) =
-        given_so (answer k nothing)
-        (given-held forms (own_refusals (table_in b) (action_of a)) (λ z. other (sym is ∙ z)) ∙ ap₂ answer is (quiet-shown forms)) in
-        let z : eqb k 0 ≡ false = ne_eqb k 0 other in
-        record { reply = rw (refused, z); table = rw (refused, z) h.held; ready = h }
+        let (is, other) = told-refused (count (table_in b)) a r (told (Err r) e) in
+        let refused : step (table_in b) a ≡ outcome_by (table_in b) (given forms) (action_of a) =
+        given_so (given forms) (given-held forms (own_refusals (table_in b) (action_of a)) other) in
+        let z : eqb (first forms) 0 ≡ false = ne_eqb _ 0 other in
+        record { reply = rw (refused, z, is); table = rw (refused, z) h.held; ready = h }
 
-    module _ (x : Asked) (asked : f ≡ form.Asks x) where
+    module _ (x : Asked) (asked : f ≡ Ok x) where
       passed : (first (form_refusals (count (table_in b)) a) ≡ 0) × (action_of a ≡ named x)
-      passed = told-asks (count (table_in b)) a x (told (form.Asks x) asked)
+      passed = told-asks (count (table_in b)) a x (told (Ok x) asked)
 
-      pub fitting : Fitting b x
+      pub fitting : Fitting (table_in b) x
       unfolding every first
-      fitting = fits b x (rw passed.1 at (common-fit (table_in b) a (none-hold (common_refusals (table_in b) a) tt (rw h.sound passed.0))).1)
+      fitting = fits (table_in b) x (rw passed.1 at (common-fit (table_in b) a (none-hold (common_refusals (table_in b) a) tt (rw h.sound passed.0))).1)
 
       -- what is asked decides alone
       alone : step (table_in b) a ≡ own_outcome (table_in b) x
@@ -93,7 +92,7 @@ module _ (b a : List ℕ) (h : Ready b) where
           (given-none (form_refusals (count (table_in b)) a) (own_refusals (table_in b) (action_of a)) tt passed.0)
           ∙ ap (λ (y : Action). outcome_by (table_in b) (given (own_refusals (table_in b) y)) y) passed.1
 
-      pub answered-step : (r : Reply) (b' : List ℕ) → Answered b x r b' → Stepped b a r b'
+      pub answered-step : (r : Result ℕ Refused) (b' : List ℕ) → Answered b x r b' → Stepped b a r b'
       answered-step r b' s =
           let left : Holds b' (step (table_in b) a).table = rw alone s.table in
           record {

@@ -1,8 +1,8 @@
 -- What the engine asks of a slice, and what a step and a run leave in it. Assumes nothing.
-use Rattle.std.specs.Prelude.{ℕ, ◌*◌, ◌/◌, ◌≤◌, min, true, false, List, ◌++◌, ◌≡◌, length, drop, replicate}
+use Rattle.std.specs.Prelude.{ℕ, ◌*◌, ◌/◌, ◌≤◌, min, true, false, List, ◌++◌, ◌≡◌, length, drop, replicate, Result}
 use Rattle.words.specs.Refusal.{nothing, answer, given}
 use Rattle.members.specs.Members.{within}
-use Rattle.algorithm.specs.declared.Reply.{Reply}
+use Rattle.algorithm.specs.declared.Refused.{Refused}
 use Rattle.algorithm.specs.Run.{reply_of, replies_bytes, own_refusals, Outcome, answered, outcome_by, step, piece_count, run_to}
 use Rattle.algorithm.specs.Table.{Table, count, positions, broken}
 use Rattle.table.specs.Layout.{table_in}
@@ -11,17 +11,17 @@ use Rattle.form.specs.declared.Asked.{Asked}
 use Rattle.form.specs.declared.Asked.TheVariants.{Elect, Reconfigure, Send, Spread, Write, Fetch, RollBack, Commit, Stretch}
 use Rattle.form.specs.Form.{named}
 
--- the servers that are asked for are servers of the table in the slice, the set is within them, and the count is one that a log can have
-abbrev pub Fitting : List ℕ → Asked → Type 0
-Fitting b (Elect i Q) = Within b i × (within Q (count (table_in b)) ≡ true)
-Fitting b (Reconfigure i M) = Within b i × (within M (count (table_in b)) ≡ true)
-Fitting b (Send i j) = Within b i × Within b j
-Fitting b (Spread i j) = Within b i × Within b j
-Fitting b (Write i B) = Within b i
-Fitting b (Fetch i j) = Within b i × Within b j
-Fitting b (RollBack i j) = Within b i × Within b j
-Fitting b (Commit i Q) = Within b i × (within Q (count (table_in b)) ≡ true)
-Fitting b (Stretch i j c) = Within b i × Within b j × ((1 ≤ c) × (c ≤ positions))
+-- the servers that are asked for are servers of the table, the set is within them, and the count is one that a log can have
+abbrev pub Fitting : Table → Asked → Type 0
+Fitting t (Elect i Q) = Within t i × (within Q (count t) ≡ true)
+Fitting t (Reconfigure i M) = Within t i × (within M (count t) ≡ true)
+Fitting t (Send i j) = Within t i × Within t j
+Fitting t (Spread i j) = Within t i × Within t j
+Fitting t (Write i B) = Within t i
+Fitting t (Fetch i j) = Within t i × Within t j
+Fitting t (RollBack i j) = Within t i × Within t j
+Fitting t (Commit i Q) = Within t i × (within Q (count t) ≡ true)
+Fitting t (Stretch i j c) = Within t i × Within t j × ((1 ≤ c) × (c ≤ positions))
 
 -- the slice holds a table, and that breaks no rule
 pub record Ready (b : List ℕ) : Type 0 where
@@ -33,12 +33,12 @@ abbrev pub own_outcome : Table → Asked → Outcome
 own_outcome t x = outcome_by t (given (own_refusals t (named x))) (named x)
 
 -- what is asked on the slice b is answered r, and leaves b'
-pub record Answered (b : List ℕ) (x : Asked) (r : Reply) (b' : List ℕ) : Type 0 where
+pub record Answered (b : List ℕ) (x : Asked) (r : Result ℕ Refused) (b' : List ℕ) : Type 0 where
   pub reply : r ≡ reply_of (answered (own_outcome (table_in b) x))
   pub table : Holds b' (own_outcome (table_in b) x).table
 
 -- the action a on the slice b is answered r, and leaves b'
-pub record Stepped (b a : List ℕ) (r : Reply) (b' : List ℕ) : Type 0 where
+pub record Stepped (b a : List ℕ) (r : Result ℕ Refused) (b' : List ℕ) : Type 0 where
   pub reply : r ≡ reply_of (answered (step (table_in b) a))
   pub table : Holds b' (step (table_in b) a).table
   pub ready : Ready b'

@@ -1,21 +1,23 @@
 // What is asked, judged by its kind.
-ghost use Rattle.std.specs.Prelude.{◌≡◌};
-ghost use Rattle.algorithm.specs.Run.{reply_of, own_refusals};
+ghost use Rattle.std.specs.Prelude.{◌≡◌, false};
+ghost use Rattle.algorithm.specs.Table.{broken};
+ghost use Rattle.algorithm.specs.Run.{verdict_of, own_refusals};
 ghost use Rattle.words.specs.Refusal.{given};
-ghost use Rattle.table.specs.Layout.{table_in};
 ghost use Rattle.form.specs.Form.{named};
-ghost use Rattle.engine.specs.Engine.{Ready, Fitting};
+ghost use Rattle.engine.specs.Engine.{Fitting};
 
-use algorithm::Reply;
+use algorithm::Refused;
 use form::Asked;
 use pair_judges::{judge_fetch, judge_roll_back, judge_send, judge_spread, judge_write};
 use set_judges::{judge_commit, judge_elect, judge_reconfigure};
+use table::Table;
 
-// The reply of the kind's own refusals.
-pub fn judge(t: &[u8], x: Asked) -> Reply
-    requires ready { Ready t.now }
+// The first of the kind's own refusals, if one holds.
+#[tactic(auto, using(crate::proofs::AskedLaws::judging))]
+pub fn judge(t: &Table<'_>, x: Asked) -> Result<(), Refused>
+    requires sound { broken t.now ≡ false }
     requires fitting { Fitting t.now x }
-    ensures { result ≡ reply_of (given (own_refusals (table_in t.now) (named x))) }
+    ensures { result ≡ verdict_of (given (own_refusals t.now (named x))) }
 {
     match x {
         Asked::Elect(i, q) => judge_elect(t, i, q),

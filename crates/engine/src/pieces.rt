@@ -1,19 +1,17 @@
-// How many pieces of 8 bytes a plan has, the last one perhaps shorter.
-ghost use Rattle.std.specs.Prelude.{◌≡◌, min};
+// How many pieces of 8 bytes a plan has, the last one perhaps shorter, and how many of them are played.
+ghost use Rattle.std.specs.Prelude.{◌≡◌};
 ghost use Rattle.algorithm.specs.Run.{piece_count};
+ghost use Rattle.engine.specs.Engine.{played};
 
 pub fn piece_count(actions: &[u8]) -> usize
     ensures { result ≡ piece_count actions.now }
 {
-    let n = actions.len();
-    if n % 8 == 0 {
-        return n / 8;
-    }
-    n / 8 + 1
+    actions.len().div_ceil(8)
 }
 
-pub fn lesser(a: usize, b: usize) -> usize
-    ensures { result ≡ min a b }
+// As many as the replies have room for.
+pub fn played(actions: &[u8], replies: &[u8]) -> usize
+    ensures { result ≡ played actions.now replies.now }
 {
-    if a < b { a } else { b }
+    piece_count(actions).min(replies.len() / 8)
 }

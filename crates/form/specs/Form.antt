@@ -1,13 +1,13 @@
--- What the bytes of an action ask: one of the nine actions, or a refusal by its number. Assumes nothing.
-use Rattle.std.specs.Prelude.{ℕ, List, ◌∷◌, get_or}
-use Rattle.words.specs.Refusal.{Refusal, refuse, first, unless_refused}
+-- What the bytes of an action ask: one of the nine actions, or a refusal. Assumes nothing.
+use Rattle.std.specs.Prelude.{ℕ, List, ◌∷◌, get_or, Result, Ok, Err}
+use Rattle.words.specs.Refusal.{Refusal, refuse, first, given, unless_refused}
+use Rattle.algorithm.specs.declared.Refused.{Refused}
+use Rattle.algorithm.specs.declared.Refused.TheVariants.{Unknown}
 use Rattle.algorithm.specs.Bytes.{kind_of, i_of, j_of, set_of, bake_of, Action, unknown, elect, reconfigure, send, spread, write, fetch, roll_back, commit, stretch, kinds, action_of}
-use Rattle.algorithm.specs.Run.{stray_zero, unknown_kind, field_refusals, form_refusals}
+use Rattle.algorithm.specs.Run.{refused_of, stray_zero, unknown_kind, field_refusals, form_refusals}
 use Rattle.form.specs.declared.Asked.{Asked}
 use Rattle.form.specs.declared.Asked.TheVariants.{Elect, Reconfigure, Send, Spread, Write, Fetch, RollBack, Commit, Stretch}
 use Rattle.form.specs.declared.Fields.{Fields}
-use Rattle.form.specs.declared.Form.{Form}
-use Rattle.form.specs.declared.Form.TheVariants.{Asks, Refused}
 
 -- the action that is asked for
 abbrev pub named : Asked → Action
@@ -22,24 +22,24 @@ named (Commit i Q) = commit i Q
 named (Stretch i j c) = stretch i j c
 
 -- what an action asks; an unknown one has refusal 2
-abbrev pub asks : Action → Form
-asks unknown = Refused 2
-asks (elect i Q) = Asks (Elect i Q)
-asks (reconfigure i M) = Asks (Reconfigure i M)
-asks (send i j) = Asks (Send i j)
-asks (spread i j) = Asks (Spread i j)
-asks (write i B) = Asks (Write i B)
-asks (fetch i j) = Asks (Fetch i j)
-asks (roll_back i j) = Asks (RollBack i j)
-asks (commit i Q) = Asks (Commit i Q)
-asks (stretch i j c) = Asks (Stretch i j c)
+abbrev pub asks : Action → Result Asked Refused
+asks unknown = Err Unknown
+asks (elect i Q) = Ok (Elect i Q)
+asks (reconfigure i M) = Ok (Reconfigure i M)
+asks (send i j) = Ok (Send i j)
+asks (spread i j) = Ok (Spread i j)
+asks (write i B) = Ok (Write i B)
+asks (fetch i j) = Ok (Fetch i j)
+asks (roll_back i j) = Ok (RollBack i j)
+asks (commit i Q) = Ok (Commit i Q)
+asks (stretch i j c) = Ok (Stretch i j c)
 
 -- the first of the refusals where one holds, and f otherwise
-abbrev pub form_by : List Refusal → Form → Form
-form_by rs f = unless_refused (first rs) f (Refused (first rs))
+abbrev pub form_by : List Refusal → Result Asked Refused → Result Asked Refused
+form_by rs f = unless_refused (first rs) f (Err (refused_of (given rs)))
 
 -- what the bytes ask, beside a table of n servers
-abbrev pub form_of : ℕ → List ℕ → Form
+abbrev pub form_of : ℕ → List ℕ → Result Asked Refused
 form_of n bs = form_by (form_refusals n bs) (asks (action_of bs))
 
 -- ---- the code's struct

@@ -3,11 +3,11 @@
 
 ghost use Rattle.std.specs.Prelude.{◌≡◌, length};
 ghost use Rattle.algorithm.specs.Bytes.{bake_of, uses_set, set_fits, uses_j};
-ghost use Rattle.algorithm.specs.Run.{known};
-ghost use Rattle.words.specs.Refusal.{first};
+ghost use Rattle.algorithm.specs.Run.{known, verdict_of};
+ghost use Rattle.words.specs.Refusal.{given};
 ghost use Rattle.form.specs.Form.{fields_of, refusals_of, eight_refusals, asks, action_by, form_by, form_of};
 
-use algorithm::POSITIONS;
+use algorithm::{POSITIONS, Refused};
 use members::is_within;
 use words::{half, word};
 
@@ -23,13 +23,6 @@ pub enum Asked {
     RollBack(usize, usize),
     Commit(usize, u16),
     Stretch(usize, usize, u16),
-}
-
-// What the bytes say: an action, or the number of the refusal.
-#[derive(Clone, Copy)]
-pub enum Form {
-    Asks(Asked),
-    Refused(u8),
 }
 
 // The bytes by their places: the two of the set are the first two of the bake, and no kind uses both; `stray` tells whether one of the zero bytes
@@ -61,8 +54,8 @@ fn fields_in(a: &[u8]) -> Fields
         kind: a[0],
         i: a[1],
         j: a[2],
-        set: set,
-        bake: bake,
+        set,
+        bake,
         stray: (a[3] != 0) | ((a[0] != 5) & ((a[6] != 0) | (a[7] != 0))),
     }
 }
@@ -84,38 +77,35 @@ fn set_fits(n: u8, kind: u8, m: u16) -> bool
 }
 
 // Refusals 3 to 5 of a kind that uses two servers, or a set, or neither; a write has its bake where others have a set.
-fn judge_fields(n: u8, f: Fields, two: bool, set: bool) -> u8
+fn judge_fields(n: u8, f: Fields, two: bool, set: bool) -> Result<(), Refused>
     requires two_value { two ≡ uses_j f.kind }
     requires set_value { set ≡ uses_set f.kind }
-    ensures { result ≡ first (refusals_of n f) }
+    ensures { result ≡ verdict_of (given (refusals_of n f)) }
 {
     if f.stray | (!two & (f.j != 0)) | (!(set | (f.kind == 5)) & (f.set != 0)) {
-        return 3;
+        return Err(Refused::Stray);
     }
     if !is_known(n, f.i) | (two & !is_known(n, f.j)) {
-        return 4;
+        return Err(Refused::NoServer);
     }
     if set & !set_fits(n, f.kind, f.set) {
-        return 5;
+        return Err(Refused::NoSet);
     }
-    0
+    Ok(())
 }
 
 // x is asked, unless a field speaks against it.
-fn unless_refused(n: u8, f: Fields, two: bool, set: bool, x: Asked) -> Form
+fn unless_refused(n: u8, f: Fields, two: bool, set: bool, x: Asked) -> Result<Asked, Refused>
     requires two_value { two ≡ uses_j f.kind }
     requires set_value { set ≡ uses_set f.kind }
-    ensures { result ≡ form_by (refusals_of n f) (Form.Asks x) }
+    ensures { result ≡ form_by (refusals_of n f) (Ok x) }
 {
-    let k = judge_fields(n, f, two, set);
-    if k != 0 {
-        return Form::Refused(k);
-    }
-    Form::Asks(x)
+    judge_fields(n, f, two, set)?;
+    Ok(x)
 }
 
 // The kind is looked at first, so that each is judged by no more than the fields that it has.
-fn by_kind(n: u8, f: Fields) -> Form
+fn by_kind(n: u8, f: Fields) -> Result<Asked, Refused>
     ensures { result ≡ form_by (eight_refusals n f) (asks (action_by f)) }
 {
     let kind = f.kind;
@@ -133,16 +123,16 @@ fn by_kind(n: u8, f: Fields) -> Form
         7 => unless_refused(n, f, true, false, Asked::RollBack(i, j)),
         8 => unless_refused(n, f, false, true, Asked::Commit(i, m)),
         9 => unless_refused(n, f, true, true, Asked::Stretch(i, j, m)),
-        _ => Form::Refused(2),
+        _ => Err(Refused::Unknown),
     }
 }
 
 // What the bytes ask, or the first of refusals 2 to 5.
-pub fn read_action(n: u8, a: &[u8]) -> Form
+pub fn read_action(n: u8, a: &[u8]) -> Result<Asked, Refused>
     ensures { result ≡ form_of n a.now }
 {
     if a.len() != 8 {
-        return Form::Refused(2);
+        return Err(Refused::Unknown);
     }
     by_kind(n, fields_in(a))
 }

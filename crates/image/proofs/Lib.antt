@@ -1,5 +1,5 @@
 -- The laws of an image's contents, logs and bodies, and of the image of a table.
-pub mod ContentsLaws
+pub mod JoinedTests
 pub mod LogLaws
 pub mod BodyLaws
 pub mod ImageLaws

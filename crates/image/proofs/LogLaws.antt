@@ -55,13 +55,14 @@ module _ (b : List ℕ) where
   log-short zero h = omega (arith, narrow-many 0 _ refl refl, h.most)
   log-short (suc w) h = omega (arith, wide-many (suc w) _ refl (omega arith), h.most)
 
-  -- the words of one of them
-  pub narrow-there : (w k : ℕ) → w ≡ 0 → k < length (server_in w b).log → 4 * (4 + k) + 4 ≤ length b
-  narrow-there w k z h = omega (arith, narrow-many w _ refl z)
+  -- the same of the log's length
+  pub narrow_length : (w : ℕ) → w ≡ 0 → length (server_in w b).log ≡ length b / 4 - 4
+  narrow_length w z = sym (narrow-many w _ refl z)
 
-  pub wide-there : (w k : ℕ) → (w ≡ 0 → ⊥) → k < length (server_in w b).log → 4 * (4 + 2 * k + 1) + 4 ≤ length b
-  wide-there w k z h = omega (arith, wide-many w _ refl z)
+  pub wide_length : (w : ℕ) → (w ≡ 0 → ⊥) → length (server_in w b).log ≡ (length b / 4 - 4) / 2
+  wide_length w z = sym (wide-many w _ refl z)
 
+  -- one of them
   narrow_at : (w k : ℕ) → w ≡ 0 → entry_at (server_in w b).log (k + 1) ≡ entry_of (get_or (words b) (4 + k) 0) 0
   unfolding nth
   narrow_at zero k z = rw add-one (get_or-map (λ T. entry_of T 0) (drop 4 (words b)) k 0 ∙ ap (λ (T : ℕ). entry_of T 0) (get_or-drop 4 (words b) k 0))
@@ -74,21 +75,21 @@ module _ (b : List ℕ) where
   wide_at (suc w) k z h =
       let ws = words b in
       let next : 4 + (2 * k + 1) ≡ 4 + 2 * k + 1 = omega arith in
-      rw (add-one, ← next, ← get_or-drop 4 ws (2 * k) 0, ← get_or-drop 4 ws (2 * k + 1) 0) (baked-at (drop 4 ws) k h)
+      rw (add-one k, ← next, ← get_or-drop 4 ws (2 * k) 0, ← get_or-drop 4 ws (2 * k + 1) 0) (baked-at (drop 4 ws) k h)
 
-  module _ (w k T : ℕ) (z : w ≡ 0) where
-    pub narrow-term : T ≡ get_or (words b) (4 + k) 0 → T ≡ term_at (server_in w b).log (k + 1)
-    narrow-term e = e ∙ ap (λ (x : Entry). x.term) (sym (narrow_at w k z))
+  module _ (w k : ℕ) (z : w ≡ 0) where
+    pub narrow_term : term_at (server_in w b).log (k + 1) ≡ get_or (words b) (4 + k) 0
+    narrow_term = ap (λ (x : Entry). x.term) (narrow_at w k z)
 
-    pub narrow-bake : 0 ≡ bake_at (server_in w b).log (k + 1)
-    narrow-bake = ap (λ (x : Entry). x.bake) (sym (narrow_at w k z))
+    pub narrow_bake : 0 ≡ bake_at (server_in w b).log (k + 1)
+    narrow_bake = ap (λ (x : Entry). x.bake) (sym (narrow_at w k z))
 
   module _ (w k : ℕ) (z : w ≡ 0 → ⊥) (h : k < length (server_in w b).log) where
-    pub wide-term : (T : ℕ) → T ≡ get_or (words b) (4 + 2 * k) 0 → T ≡ term_at (server_in w b).log (k + 1)
-    wide-term T e = e ∙ ap (λ (x : Entry). x.term) (sym (wide_at w k z h))
+    pub wide_term : term_at (server_in w b).log (k + 1) ≡ get_or (words b) (4 + 2 * k) 0
+    wide_term = ap (λ (x : Entry). x.term) (wide_at w k z h)
 
-    pub wide-bake : (B : ℕ) → B ≡ get_or (words b) (4 + 2 * k + 1) 0 → B ≡ bake_at (server_in w b).log (k + 1)
-    wide-bake B e = e ∙ ap (λ (x : Entry). x.bake) (sym (wide_at w k z h))
+    pub wide_bake : bake_at (server_in w b).log (k + 1) ≡ get_or (words b) (4 + 2 * k + 1) 0
+    wide_bake = ap (λ (x : Entry). x.bake) (wide_at w k z h)
 
 -- a bake that is read has four bytes
 bakes-none : (ws : List ℕ) → FourBytes (bakes (entries ws))
@@ -104,6 +105,8 @@ bakes-small (T ∷ B ∷ ws) h = (h.1.0, bakes-small ws h.1.1)
 pub bakes-read : (w : ℕ) (b : List ℕ) → ((i : ℕ) → get_or b i 0 < 256) → FourBytes (bakes (server_in w b).log)
 bakes-read zero b h = bakes-none (drop 4 (words b))
 bakes-read (suc w) b h = bakes-small (drop 4 (words b)) (words-drop 4 (words b) (words_small b h))
+
+pub ruleset log_read = (narrow_length, wide_length, narrow_term, wide_term, wide_bake)
 
 -- ---- a log and its words
 

@@ -1,5 +1,6 @@
 // The bodies of an image, and whether their fields keep the rules. Who judges a body is lent that body alone: it
-// sees nothing else.
+// sees nothing else. That the contents name the bodies is asked of the image (`Named`) and not kept in a struct: the
+// struct would be built by who judges and again by who reads, and each contract would name its field in place of the fact.
 ghost use Rattle.std.specs.Prelude.{◌≡◌, ◌+◌, ◌≤◌, ◌<◌, length};
 ghost use Rattle.words.specs.Lists.{every, between};
 ghost use Rattle.algorithm.specs.Table.{term_at, bake_at, ceiling};
@@ -10,7 +11,7 @@ ghost use Rattle.image.specs.Contents.{wide_in, figure_bytes, body, server_in, s
 use crate::contents::{count_of, offset_of, stop_of};
 use algorithm::{CEILING, Term, Version};
 use table::figures::{Figures, figures_sound};
-use words::{all_between, half, wide, word};
+use words::{all_between, half, word};
 
 pub fn body_of(image: &[u8], e: usize) -> &[u8]
     requires { Names image.now e }
@@ -39,15 +40,16 @@ pub fn figures_of(b: &[u8]) -> Figures
     ensures { (result ≡ figures_of (server_in 0 b.now)) × (result.set < 65536) }
 {
     Figures {
-        role: wide(b[0]),
+        role: u32::from(b[0]),
         term: Term(word(b, 1)),
-        set: half(b, 2) as u32,
+        set: u32::from(half(b, 2)),
         version: Version(word(b, 2)),
         config: Term(word(b, 3)),
     }
 }
 
-// How many entries the log has.
+// How many entries the log has. A body is lent without the image's opening, so the width of its entries comes beside it.
+#[tactic(auto, using(crate::proofs::LogLaws::log_read))]
 pub fn entries_in(b: &[u8], width: u8) -> usize
     requires { figure_bytes ≤ length b.now }
     ensures { result ≡ length (server_in width b.now).log }
@@ -60,6 +62,7 @@ pub fn entries_in(b: &[u8], width: u8) -> usize
 }
 
 // The term at position k + 1.
+#[tactic(auto, using(crate::proofs::LogLaws::log_read))]
 pub fn term_in(b: &[u8], width: u8, k: usize) -> Term
     requires { k < length (server_in width b.now).log }
     ensures { result.0 ≡ term_at (server_in width b.now).log (k + 1) }
@@ -71,6 +74,7 @@ pub fn term_in(b: &[u8], width: u8, k: usize) -> Term
 }
 
 // The bake there, which stands behind its term or is 0.
+#[tactic(auto, using(crate::proofs::LogLaws::log_read))]
 pub fn bake_in(b: &[u8], width: u8, k: usize) -> u32
     requires { k < length (server_in width b.now).log }
     ensures { result ≡ bake_at (server_in width b.now).log (k + 1) }
@@ -81,17 +85,16 @@ pub fn bake_in(b: &[u8], width: u8, k: usize) -> u32
     word(b, 4 + 2 * k + 1)
 }
 
+#[tactic(auto, using(crate::proofs::JoinedTests::each_term))]
 fn terms_sound(b: &[u8], width: u8) -> bool
     requires { figure_bytes ≤ length b.now }
     ensures { result ≡ every (between 1 ceiling) (terms (server_in width b.now).log) }
 {
     let n = entries_in(b, width);
     let mut ok = true;
-    let mut k: usize = 0;
-    while k < n {
+    for k in 0..n {
         let v = term_in(b, width, k).0;
-        ok = ok & ((1 <= v) & (v <= CEILING));
-        k += 1;
+        ok &= (1 <= v) & (v <= CEILING);
     }
     ok
 }
@@ -112,23 +115,21 @@ fn body_sound(image: &[u8], e: usize) -> bool
     ensures { result ≡ sound_at image.now e }
 {
     let b = body_of(image, e);
-    if 1 <= e {
-        return server_sound(b, image[4], image[5]);
+    if e == 0 {
+        return marks_sound(b);
     }
-    marks_sound(b)
+    server_sound(b, image[4], image[5])
 }
 
 // Whether the fields of every body keep the rules.
+#[tactic(auto, using(crate::proofs::JoinedTests::each_below), unfolding(crate::specs::Contents::sound_bodies))]
 pub fn are_sound(image: &[u8]) -> bool
     requires { Named image.now }
     ensures { result ≡ sound_bodies image.now }
 {
-    let n = count_of(image);
     let mut ok = true;
-    let mut e: usize = 0;
-    while e <= n {
-        ok = ok & body_sound(image, e);
-        e += 1;
+    for e in 0..=count_of(image) {
+        ok &= body_sound(image, e);
     }
     ok
 }

@@ -4,7 +4,7 @@ ghost use Rattle.algorithm.specs.Table.{sound_count};
 ghost use Rattle.image.specs.Contents.{opened, count_in, offset, size, stop, first_body, start, figure_bytes, fixed, entry_bytes, item_bytes, may_have, laid, laid_out};
 
 use algorithm::{POSITIONS, RULE_2, SERVERS};
-use words::{half, wide};
+use words::half;
 
 // The length of a server's body before its log.
 pub const FIGURE_BYTES: usize = 16;
@@ -23,20 +23,17 @@ pub fn count_of(image: &[u8]) -> usize
     requires { 8 ≤ length image.now }
     ensures { (result ≡ count_in image.now) × (result < 256) }
 {
-    wide(image[4]) as usize
+    usize::from(image[4])
 }
 
 pub fn is_opened(image: &[u8]) -> bool
     requires { 8 ≤ length image.now }
     ensures { result ≡ opened image.now }
 {
-    (image[0] == b'S')
-        & (image[1] == b'I')
-        & (image[2] == b'T')
-        & (image[3] == b'E')
-        & (image[5] <= WIDE)
-        & (image[6] <= RULE_2 as u8)
-        & (image[7] <= SERVERS)
+    image.starts_with(b"SITE")
+        && image[5] <= WIDE
+        && image[6] <= RULE_2 as u8
+        && image[7] <= SERVERS
 }
 
 pub fn is_counted(image: &[u8]) -> bool
@@ -59,14 +56,14 @@ pub fn offset_of(image: &[u8], e: usize) -> usize
     requires { first_body e ≤ length image.now }
     ensures { (result ≡ offset image.now e) × (result < 65536) }
 {
-    half(image, 8 + 4 * e) as usize
+    usize::from(half(image, 8 + 4 * e))
 }
 
 pub fn size_of(image: &[u8], e: usize) -> usize
     requires { first_body e ≤ length image.now }
     ensures { (result ≡ size image.now e) × (result < 65536) }
 {
-    half(image, 10 + 4 * e) as usize
+    usize::from(half(image, 10 + 4 * e))
 }
 
 // Where body e ends.
@@ -127,6 +124,7 @@ fn is_laid(image: &[u8], e: usize, place: usize) -> bool
 }
 
 // Whether the contents and the extent of every body are as they have to be.
+#[tactic(auto, using(crate::proofs::JoinedTests::each_below), unfolding(crate::specs::Contents::laid_out))]
 pub fn is_laid_out(image: &[u8]) -> bool
     requires { 8 ≤ length image.now }
     ensures { result ≡ laid_out image.now }
@@ -137,11 +135,9 @@ pub fn is_laid_out(image: &[u8]) -> bool
         return false;
     }
     let mut ok = true;
-    let mut e: usize = 0;
-    while e <= n {
-        ok = ok & is_laid(image, e, place);
+    for e in 0..=n {
+        ok &= is_laid(image, e, place);
         place = stop_of(image, e);
-        e += 1;
     }
     ok
 }

@@ -10,7 +10,7 @@ use Rattle.words.proofs.Tests.{fails-false}
 use Rattle.algorithm.specs.Table.{Table, broken, fresh}
 use Rattle.words.specs.Refusal.{nothing, answer}
 use Rattle.algorithm.specs.Run.{replies_bytes, answered, step, run_to}
-use Rattle.algorithm.proofs.Refused.{refused-stays}
+use Rattle.algorithm.proofs.Refusals.{refused-stays}
 use Rattle.algorithm.proofs.Kept.{fresh-sound}
 use Rattle.algorithm.proofs.Runs.{replies-count}
 use Rattle.algorithm.proofs.Replies.{length-bytes}

@@ -1,14 +1,27 @@
 -- What the exported functions answer and leave, computed from the bytes that they are given, and the slices that calls lead to. Assumes nothing.
-use Rattle.std.specs.Prelude.{ℕ, ◌*◌, ◌<◌, cond, not, ◌||◌, List, [], ◌∷◌, ◌++◌, ◌≡◌, eqb, length, drop, replicate, take}
+use Rattle.std.specs.Prelude.{ℕ, ◌*◌, ◌<◌, cond, not, ◌||◌, List, [], ◌∷◌, ◌++◌, ◌≡◌, eqb, length, drop, replicate, take, Result, Ok, Err}
 use Rattle.words.specs.Words.{value_of, eight}
 use Rattle.words.specs.Refusal.{nothing, Refusal, refuse, first, Answer, answer, unless_refused}
 use Rattle.members.specs.Members.{within}
+use Rattle.algorithm.specs.declared.Refused.{Refused}
 use Rattle.algorithm.specs.Table.{sound_count, sound_rule, sound_floor, fresh}
-use Rattle.algorithm.specs.Run.{reply_bytes, replies_bytes, answered, step, run_to, pieces}
+use Rattle.algorithm.specs.Run.{told, reply_bytes, replies_bytes, answered, step, run_to, pieces}
 use Rattle.table.specs.Layout.{table_bytes, stored, table_in, whole}
 use Rattle.engine.specs.Engine.{played}
 use Rattle.reader.specs.Reader.{ReadAnswer}
 use Rattle.writer.specs.Writer.{WriteAnswer}
+
+-- ---- an answer that tells of a place
+
+-- its number, 0 where nothing is refused
+abbrev pub place_number : Result ℕ Refused → ℕ
+place_number (Ok k) = 0
+place_number (Err r) = (told r).number
+
+-- the place that it tells; refused, e as it was
+abbrev pub place_after : Result ℕ Refused → ℕ → ℕ
+place_after (Ok k) e = k
+place_after (Err r) e = e
 
 -- ---- a fresh table of n servers with the set m, under the rule R and with the floor F, into the slice b
 

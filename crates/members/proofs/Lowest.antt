@@ -1,19 +1,19 @@
 -- The lowest number that passes a test, the lowest member of a set, and the k lowest servers of one. Assumes nothing.
 use mathlib.Core.Path.{◌≡◌, refl, sym, ap, subst, ◌∙◌}
 use mathlib.Core.Bool.{Bool, true, false, cond, ◌&&◌}
-use Prim.Native.Nat.{ℕ, zero, suc, ◌+◌, ◌-◌, ◌*◌, ◌/◌, ◌%◌, ◌^◌, ◌≤◌, ◌<◌, min}
-use native.Mathlib.Nat.{div-one, pow-suc}
+use Prim.Native.Nat.{ℕ, zero, suc, ◌+◌, ◌-◌, ◌*◌, ◌%◌, ◌^◌, ◌≤◌, ◌<◌, min}
 use native.Mathlib.Decide.{dec_lt}
-use native.Mathlib.Numerals.{one-add}
 use native.Mathlib.Omega.{arith}
-use lib.Dec.{T, ltb, eqb, eqb→eq}
-use lib.Count.{ones, count_trailing_zeros, under}
-use lib.Pow.{shr-shr}
+use lib.Dec.{T, ltb}
+use lib.Count.{ones}
 use borrow.Author.Tests.{ltb-true, ltb-false, lt-ltb, le-ltb}
+use Rattle.std.proofs.lemmas.Nat.Bits.{bit_at-trailing_zeros}
+use Rattle.std.specs.Int.{Width, bit_at, trailing_zeros}
+use mir.Val.{bits}
 use mir.Facts.{and_yes}
 use Rattle.members.specs.Members.{bit, member, Member, Subset, one, with_next, mask, passing, some_pass, lowest_from, lowest_up_to, lowest_in}
 use Rattle.members.specs.Rules.{is_low, lowest_servers}
-use Rattle.words.proofs.Tests.{Passes, Fails, both, together, fails, fails-false}
+use Rattle.words.proofs.Tests.{Passes, Fails, both, together, fails, fails-false, equal, is-equal}
 use Rattle.words.proofs.Choice.{cond-elim}
 use Rattle.members.proofs.Said.{Lowest}
 use Rattle.members.proofs.Counting.{count, count_same}
@@ -130,37 +130,18 @@ pub lowest-map : {q s : ℕ} {P R : ℕ → Type 0} → ((u : ℕ) → P u → R
 lowest-map {s} f g l = record { member = l.member; holds = f s l.holds; least = λ u x y. l.least u x (g u y) }
 
 -- a set that is not empty has it behind its trailing zeros
-half-bit : (k m : ℕ) → bit (suc k) m ≡ bit k (m / 2)
-half-bit k m = ap (λ (x : ℕ). eqb (x % 2) 1) (ap (λ (e : ℕ). m / 2 ^ e) (sym (one-add k)) ∙ sym (shr-shr m 1 k))
-
-first_bit : (m : ℕ) → bit 0 m ≡ eqb (m % 2) 1
-first_bit m = ap (λ (x : ℕ). eqb (x % 2) 1) (div-one m)
-
-trailing : (n m : ℕ) → 0 < m → m < 2 ^ n → Lowest m (λ _. Unit {0}) (suc (count_trailing_zeros n m))
-unfolding count_trailing_zeros
-trailing zero m p h = absurd (omega arith)
-trailing (suc k) m p h = go (m % 2) refl (trailing k (m / 2))
+pub trailing-lowest : (w : Width) (m : ℕ) → 0 < m → m < 2 ^ bits w → suc (trailing_zeros w m) ≡ lowest_up_to (bits w) (λ s. member s m)
+trailing-lowest w m some width =
+    let (within, set, below) = bit_at-trailing_zeros w m some width in
+    lowest-is (λ s. member s m) (bits w) (suc (trailing_zeros w m)) (omega arith) (omega arith) (is-equal set) (least below)
   where
-    go : (d : ℕ) → m % 2 ≡ d → (0 < m / 2 → m / 2 < 2 ^ k → Lowest (m / 2) (λ _. Unit {0}) (suc (count_trailing_zeros k (m / 2))))
-        → Lowest m (λ _. Unit {0}) (suc (under d (count_trailing_zeros k (m / 2))))
-    go zero e rest =
-        let r = rest (omega arith) (omega (arith, pow-suc 2 k)) in
-        let z = count_trailing_zeros k (m / 2) in
-        record { member = subst T (sym (half-bit z m)) r.member; holds = tt; least = least z r.least }
+    least : ((i : ℕ) → i < trailing_zeros w m → bit_at m i ≡ 0) → (t : ℕ) → 0 < t → Passes (member t m) → suc (trailing_zeros w m) ≤ t
+    least below zero from u = absurd (omega arith)
+    least below (suc j) from u = go (dec_lt j (trailing_zeros w m))
       where
-        least : (z : ℕ) → ((u : ℕ) → Member u (m / 2) → Unit {0} → suc z ≤ u) → (u : ℕ) → Member u m → Unit {0} → suc (suc z) ≤ u
-        least z below zero t h = absurd t
-        least z below (suc zero) t h = absurd (omega (arith, eqb→eq (m % 2) 1 (subst T (first_bit m) t)))
-        least z below (suc (suc j)) t h = omega (arith, below (suc j) (subst T (half-bit j m) t) tt)
-    go (suc d) e rest =
-        let odd : m % 2 ≡ 1 = omega arith in
-        record { member = subst T (sym (first_bit m ∙ ap (λ (x : ℕ). eqb x 1) odd)) tt; holds = tt; least = λ u t h. omega (arith, member-pos u m t) }
-
-pub trailing-lowest : (n m : ℕ) → 0 < m → m < 2 ^ n → suc (count_trailing_zeros n m) ≡ lowest_up_to n (λ s. member s m)
-trailing-lowest n m p width =
-    let low = trailing n m p width in
-    lowest-is (λ s. member s m) n (suc (count_trailing_zeros n m)) (omega arith) (member-le n (suc (count_trailing_zeros n m)) width low.member)
-    (record { yes = low.member }) (λ t from u. low.least t u.yes tt)
+        go : Dec (j < trailing_zeros w m) → suc (trailing_zeros w m) ≤ suc j
+        go (yes l) = absurd (omega (arith, below j l, equal {a = bit_at m j} {b = 1} u))
+        go (no l) = omega arith
 
 pub empty-lowest : (n : ℕ) → lowest_up_to n (λ s. member s 0) ≡ 0
 empty-lowest n = lowest-none (λ s. member s 0) n 1 (λ t l h. fails (λ u. omega (arith, member-some t 0 u.yes)))

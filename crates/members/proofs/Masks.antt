@@ -1,18 +1,21 @@
 -- A mask and the test "is a member": the count of ones is the count of members, `&`, `|` and `^` work member by member,
 -- masks with the same members are equal, and each test on servers has its mask. Assumes nothing.
 use mathlib.Core.Path.{◌≡◌, refl, sym, ap, ap₂, subst, ◌∙◌}
-use mathlib.Core.Bool.{Bool, true, false, not, and_assoc, ◌&&◌, ◌||◌}
+use mathlib.Core.Bool.{Bool, true, false, not, ◌&&◌, ◌||◌}
 use mathlib.Core.Logic.{◌⊎◌, inl, inr, ⊎_elim}
-use Prim.Native.Nat.{ℕ, zero, suc, ◌+◌, ◌-◌, ◌*◌, ◌/◌, ◌%◌, ◌^◌, ◌≤◌, ◌<◌, min, max}
+use Prim.Native.Nat.{ℕ, zero, suc, ◌+◌, ◌*◌, ◌/◌, ◌%◌, ◌^◌, ◌≤◌, ◌<◌, min, max}
 use native.Mathlib.Nat.{mod-lt, mod-one, mod-eq_of_lt, div-eq_of_lt, div-lt_iff_lt-mul, eq-or-lt_of_le, zero-lt-suc, lt_of_lt_of_le, pow-suc, div-add-mod'}
 use native.Mathlib.Decide.{dec_le, dec_lt}
-use native.Mathlib.Numerals.{add-one, one-add, sub-one}
+use native.Mathlib.Numerals.{add-one, one-add}
 use native.Mathlib.Omega.{arith}
 use lib.Dec.{T, T_not, not_T, eqb, ltb}
 use borrow.Author.Tests.{eq-eqb, ne_eqb, lt-ltb, le-ltb}
-use lib.Arith.{bin_ind, digits_mod, digits_lt}
-use lib.Pow.{pow_pos, pow_mono, mod-pow-add, field, mod-mod-pow, high, low}
-use lib.Bits.{bit_and, bit_or, bit_xor, differ, and_step, or_step, xor_step, and_shr, or_shr, xor_shr, and_le_l, and_le_r, xor_lt}
+use lib.Arith.{bin_ind, digits_lt}
+use lib.Pow.{pow_pos, pow_mono, mod-pow-add, high}
+use lib.Bits.{bit_and, bit_or, bit_xor, and_le_l, and_le_r, xor_lt}
+use Rattle.std.proofs.lemmas.Nat.{and_assoc}
+use Rattle.std.proofs.lemmas.Nat.Bits.{bit_at_and, bit_at_or, bit_at_xor, bit_at_above, bit_at_cat_low, same_from_bits}
+use Rattle.std.specs.Int.{bit_at}
 use mir.Facts.{and_yes, yes_and, or_yes}
 use lib.Count.{ones, ones_step, ones_cat}
 use Rattle.members.specs.Members.{bit, member, Member, Subset, without, one, mask}
@@ -85,25 +88,16 @@ member-pos zero m t = absurd t
 member-pos (suc k) m t = omega arith
 
 -- a mask of n digits has servers 1 to n only
-pub member-le : (n s : ℕ) {m : ℕ} → m < 2 ^ n → Member s m → s ≤ n
-member-le n zero h t = absurd t
-member-le n (suc k) {m} h t = go (dec_le (suc k) n)
-  where
-    go : Dec (suc k ≤ n) → suc k ≤ n
-    go (yes p) = p
-    go (no p) =
-        absurd (subst (λ (x : ℕ). T (eqb (x % 2) 1)) (div-eq_of_lt (lt_of_lt_of_le h (pow_mono (omega arith)))) t)
-
 pub member-above : (n s : ℕ) {m : ℕ} → m < 2 ^ n → n < s → member s m ≡ false
-member-above n s {m} h l = go (member s m) refl
-  where
-    go : (b : Bool) → member s m ≡ b → b ≡ false
-    go true e = absurd (omega (arith, member-le n s h (subst T (sym e) tt)))
-    go false e = refl
+member-above n zero h l = absurd (omega arith)
+member-above n (suc k) {m} h l = ap (λ (d : ℕ). eqb d 1) (bit_at_above m n k h (omega arith))
 
-pub member-pred : (s m : ℕ) → 0 < s → bit (s - 1) m ≡ member s m
-member-pred zero m h = absurd (omega arith)
-member-pred (suc k) m h = ap (λ (j : ℕ). bit j m) (sub-one (suc k))
+pub member-le : (n s : ℕ) {m : ℕ} → m < 2 ^ n → Member s m → s ≤ n
+member-le n s {m} h t = go (dec_le s n)
+  where
+    go : Dec (s ≤ n) → s ≤ n
+    go (yes p) = p
+    go (no p) = absurd (subst T (member-above n s h (omega arith)) t)
 
 -- a set is not empty exactly where it has a member
 pub a-member : (m : ℕ) → 0 < m → (s : ℕ) × Member s m
@@ -125,32 +119,17 @@ none_above n m = go (dec_lt m (2 ^ n))
         ne_eqb (m / 2 ^ n) 0 (λ e. h (omega (arith, (div-lt_iff_lt-mul {x = m} {y = 1} (pow_pos n)).0 (omega arith)))) ∙ sym (le-ltb m (2 ^ n) (omega arith))
 
 -- masks with the same members are equal
-ext_low : (n a b : ℕ) → ((s : ℕ) → member s a ≡ member s b) → a % 2 ^ n ≡ b % 2 ^ n
-ext_low zero a b e = mod-one a ∙ sym (mod-one b)
-ext_low (suc k) a b e =
-    low-suc k a ∙ ap₂ (λ (t : Bool) (l : ℕ). one t * 2 ^ k + l) (e (suc k)) (ext_low k a b e) ∙ sym (low-suc k b)
-
 pub ext : (a b : ℕ) → ((s : ℕ) → member s a ≡ member s b) → a ≡ b
-ext a b e = sym (mod-eq_of_lt (fits (a + b) (omega arith))) ∙ ext_low (a + b) a b e ∙ mod-eq_of_lt (fits (a + b) (omega arith))
+ext a b e = same_from_bits a b (λ k. digit k a ∙ ap one (e (suc k)) ∙ sym (digit k b))
 
 -- ---- `&`, `|` and `^`, member by member
 
--- op works digit by digit, as d does on digits and g on truth values
-bitwise : (op d : ℕ → ℕ → ℕ) (g : Bool → Bool → Bool)
-    → ((a b k : ℕ) → op a b / 2 ^ k ≡ op (a / 2 ^ k) (b / 2 ^ k))
-    → ((a b : ℕ) → op a b ≡ op (a / 2) (b / 2) * 2 + d (a % 2) (b % 2))
-    → ((x y : Bool) → d (one x) (one y) ≡ one (g x y))
-    → (k a b : ℕ) → bit k (op a b) ≡ g (bit k a) (bit k b)
-bitwise op d g shift step digits k a b =
-    let r : Bool = g (bit k a) (bit k b) in
-    let high : ℕ = op (a / 2 ^ k / 2) (b / 2 ^ k / 2) in
-    ap (λ (x : ℕ). eqb (x % 2) 1)
-    (shift a b k ∙ step (a / 2 ^ k) (b / 2 ^ k) ∙ ap₂ (λ (x y : ℕ). high * 2 + d x y) (digit k a) (digit k b)
-    ∙ ap (λ (x : ℕ). high * 2 + x) (digits (bit k a) (bit k b)))
-    ∙ ap (λ (x : ℕ). eqb x 1) (digits_mod high (one-lt r) ∙ sym (mod-eq_of_lt (one-lt r)))
-    ∙ of_one r
+-- what holds of digits holds of bits
+bitwise : (d : ℕ → ℕ → ℕ) (g : Bool → Bool → Bool) → ((x y : Bool) → eqb (d (one x) (one y)) 1 ≡ g x y)
+    → (k a b m : ℕ) → bit_at m k ≡ d (bit_at a k) (bit_at b k) → bit k m ≡ g (bit k a) (bit k b)
+bitwise d g digits k a b m e = ap (λ (x : ℕ). eqb x 1) (e ∙ ap₂ d (digit k a) (digit k b)) ∙ digits (bit k a) (bit k b)
 
-both-digits : (x y : Bool) → min (one x) (one y) ≡ one (x && y)
+both-digits : (x y : Bool) → eqb (min (one x) (one y)) 1 ≡ (x && y)
 both-digits true true = refl
 both-digits true false = refl
 both-digits false true = refl
@@ -158,9 +137,9 @@ both-digits false false = refl
 
 pub and-member : (s a b : ℕ) → member s (bit_and a b) ≡ (member s a && member s b)
 and-member zero a b = refl
-and-member (suc k) a b = bitwise bit_and min ◌&&◌ and_shr and_step both-digits k a b
+and-member (suc k) a b = bitwise min ◌&&◌ both-digits k a b (bit_and a b) (bit_at_and a b k)
 
-either-digit : (x y : Bool) → max (one x) (one y) ≡ one (x || y)
+either-digit : (x y : Bool) → eqb (max (one x) (one y)) 1 ≡ (x || y)
 either-digit true true = refl
 either-digit true false = refl
 either-digit false true = refl
@@ -168,9 +147,9 @@ either-digit false false = refl
 
 or-member : (s a b : ℕ) → member s (bit_or a b) ≡ (member s a || member s b)
 or-member zero a b = refl
-or-member (suc k) a b = bitwise bit_or max ◌||◌ or_shr or_step either-digit k a b
+or-member (suc k) a b = bitwise max ◌||◌ either-digit k a b (bit_or a b) (bit_at_or a b k)
 
-unlike-digits : (x y : Bool) → differ (one x) (one y) ≡ one (unlike x y)
+unlike-digits : (x y : Bool) → eqb ((one x + one y) % 2) 1 ≡ unlike x y
 unlike-digits true true = refl
 unlike-digits true false = refl
 unlike-digits false true = refl
@@ -178,7 +157,7 @@ unlike-digits false false = refl
 
 pub xor-member : (s a b : ℕ) → member s (bit_xor a b) ≡ unlike (member s a) (member s b)
 xor-member zero a b = refl
-xor-member (suc k) a b = bitwise bit_xor differ unlike xor_shr xor_step unlike-digits k a b
+xor-member (suc k) a b = bitwise (λ x y. (x + y) % 2) unlike unlike-digits k a b (bit_xor a b) (bit_at_xor a b k)
 
 unlike-and : (x y : Bool) → unlike x (x && y) ≡ (x && not y)
 unlike-and true y = refl
@@ -267,10 +246,7 @@ ones-mask (suc k) f = ones_cat k (one (f (suc k))) (mask k f) (mask_lt k f) ∙ 
 -- a bit below k is one of the lowest k digits
 pub bit-low : (j k m : ℕ) → j < k → bit j (m % 2 ^ k) ≡ bit j m
 bit-low j k m h =
-    let i : ℕ = k - suc j in
-    let width : k ≡ i + 1 + j = omega arith in
-    ap (λ (e : ℕ). bit j (m % 2 ^ e)) width
-    ∙ ap (λ (x : ℕ). eqb (x % 2) 1) (field m (i + 1) j) ∙ ap (λ (x : ℕ). eqb x 1) (mod-mod-pow (m / 2 ^ j) i 1)
+    ap (λ (x : ℕ). eqb x 1) (sym (bit_at_cat_low (m / 2 ^ k) k (m % 2 ^ k) j h) ∙ ap (λ (x : ℕ). bit_at x j) (div-add-mod' m (2 ^ k)))
 
 pub member-mask : (n : ℕ) (f : ℕ → Bool) (k : ℕ) → k < n → member (suc k) (mask n f) ≡ f (suc k)
 unfolding mask
@@ -281,7 +257,7 @@ member-mask (suc j) f k h = go (eq-or-lt_of_le (omega arith)) (member-mask j f k
     go (inl e) rest =
         subst (λ (x : ℕ). bit x (mask (suc j) f) ≡ f (suc x)) (sym e)
         (ap (λ (x : ℕ). eqb (x % 2) 1) (high (one (f (suc j))) j (mask_lt j f)) ∙ of_one (f (suc j)))
-    go (inr l) rest = sym (bit-low k j (mask (suc j) f) l) ∙ ap (bit k) (low (one (f (suc j))) j (mask_lt j f)) ∙ rest l
+    go (inr l) rest = ap (λ (x : ℕ). eqb x 1) (bit_at_cat_low (one (f (suc j))) j (mask j f) k l) ∙ rest l
 
 pub in-mask : (n : ℕ) (f : ℕ → Bool) (s : ℕ) → Member s (mask n f) → T (f s)
 in-mask n f zero t = absurd t
@@ -318,12 +294,7 @@ without-passing n q f width =
 
 pub and_both : (n q : ℕ) (f g : ℕ → Bool) → bit_and (bit_and q (mask n f)) (mask n g) ≡ bit_and q (mask n (λ s. f s && g s))
 and_both n q f g =
-    let m : ℕ = bit_and q (mask n f) in
-    mask_is n (bit_and m (mask n g)) (λ s. member s q && (f s && g s)) (omega (arith, and_le_r m (mask n g), mask_lt n g)) one_more
-    ∙ sym (and-passing n q (λ s. f s && g s))
-  where
-    one_more : (k : ℕ) → k < n → member (suc k) (bit_and (bit_and q (mask n f)) (mask n g)) ≡ (member (suc k) q && (f (suc k) && g (suc k)))
-    one_more k l =
-        and-member (suc k) (bit_and q (mask n f)) (mask n g)
-        ∙ ap₂ ◌&&◌ (and-member (suc k) q (mask n f) ∙ ap (λ (b : Bool). member (suc k) q && b) (member-mask n f k l)) (member-mask n g k l)
-        ∙ and_assoc (member (suc k) q) (f (suc k)) (g (suc k))
+    and_assoc (mask n g) q (mask n f)
+    ∙ ap (bit_and q)
+    (mask_is n (bit_and (mask n f) (mask n g)) (λ s. f s && g s) (omega (arith, and_le_r (mask n f) (mask n g), mask_lt n g))
+    (λ k l. and-member (suc k) (mask n f) (mask n g) ∙ ap₂ ◌&&◌ (member-mask n f k l) (member-mask n g k l)))

@@ -16,11 +16,9 @@ fn lowest_servers(m: u16, k: u32) -> u16
     ensures { result ≡ lowest_servers 16 k m }
 {
     let mut q: u16 = 0;
-    let mut i: usize = 0;
-    while i < 16 {
+    for i in 0..16 {
         let rest = m >> i;
-        q = with_next(q, i, (rest % 2 == 1) & (u16::count_ones(q) < k));
-        i += 1;
+        q = with_next(q, i, (rest % 2 == 1) & (q.count_ones() < k));
     }
     q
 }
@@ -32,8 +30,8 @@ pub fn lowest_apart(a: u16, b: u16) -> Pair
     ensures { result ≡ lowest_pair a b }
 {
     let shared = a & b;
-    let spared = lowest_servers(shared, (u16::count_ones(b) - 1) / 2);
-    let old = lowest_servers((a ^ shared) | spared, u16::count_ones(a) / 2 + 1);
-    let new = lowest_servers(b ^ (b & old), u16::count_ones(b) / 2 + 1);
-    Pair { old: old, new: new }
+    let spared = lowest_servers(shared, (b.count_ones() - 1) / 2);
+    let old = lowest_servers((a ^ shared) | spared, a.count_ones() / 2 + 1);
+    let new = lowest_servers(b ^ (b & old), b.count_ones() / 2 + 1);
+    Pair { old, new }
 }

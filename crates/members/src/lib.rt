@@ -11,7 +11,7 @@ ghost use Rattle.members.specs.Rules.{all_meet, may_follow, below_floor};
 use sheet::least_shared;
 
 // Server s is in m.
-pub fn is_member(s: u8, m: u16) -> bool
+pub fn is_member(s: usize, m: u16) -> bool
     ensures { result ≡ member s m }
 {
     if s == 0 || 16 < s {
@@ -31,14 +31,14 @@ pub fn is_within(m: u32, n: u8) -> bool
 pub fn is_one_apart(a: u16, b: u16) -> bool
     ensures { result ≡ one_apart a b }
 {
-    u16::count_ones(a ^ b) == 1
+    (a ^ b).count_ones() == 1
 }
 
 // q lies in m and has more than half of its servers.
 pub fn is_majority(q: u16, m: u16) -> bool
     ensures { result ≡ majority q m }
 {
-    q & m == q && u16::count_ones(m) < 2 * u16::count_ones(q)
+    q & m == q && m.count_ones() < 2 * q.count_ones()
 }
 
 // Every majority of a meets every majority of b: the sets share as many servers as the manual's sheet asks.
@@ -46,11 +46,11 @@ fn all_meet(a: u16, b: u16) -> bool
     requires { (0 < a) × (0 < b) }
     ensures { result ≡ all_meet a b }
 {
-    let least = least_shared(u16::count_ones(a), u16::count_ones(b));
-    least as u32 <= u16::count_ones(a & b)
+    let least = least_shared(a.count_ones(), b.count_ones());
+    u32::from(least) <= (a & b).count_ones()
 }
 
-// The set `new` may follow `old` under rule 1, which is the number 0, or rule 2.
+// The set `new` may follow `old` under rule 1, which is the number 0, or rule 2, which is any other: a table has its rule as a number.
 pub fn may_follow(rule: u32, old: u16, new: u16) -> bool
     requires { (0 < old) × (0 < new) }
     ensures { result ≡ may_follow rule old new }
@@ -65,7 +65,7 @@ pub fn may_follow(rule: u32, old: u16, new: u16) -> bool
 pub fn is_below(floor: u32, new: u16) -> bool
     ensures { result ≡ below_floor floor new }
 {
-    u16::count_ones(new) < floor
+    new.count_ones() < floor
 }
 
 // The set m of servers 1 to k, and server k + 1 if b: how a loop over the servers builds the set of those that pass a test.
@@ -86,5 +86,5 @@ pub fn lowest_member(m: u16) -> u8
     if m == 0 {
         return 0;
     }
-    u16::trailing_zeros(m) as u8 + 1
+    m.trailing_zeros() as u8 + 1
 }

@@ -17,7 +17,7 @@ use Rattle.algorithm.specs.Table.{Table, count, server, mark, broken}
 use Rattle.algorithm.specs.Bytes.{kinds, kind_of, i_of, j_of, set_of, bake_of, action_of}
 use Rattle.algorithm.specs.Actions.{voted, winner, fetch_refusals, fetch_after, entry_refusals, marked_otherwise, fetches}
 use Rattle.algorithm.specs.Run.{known, form_refusals, common_refusals, own_refusals, refusals, after, step}
-use Rattle.algorithm.proofs.Refused.{Fits, common-fit, Taken, taken}
+use Rattle.algorithm.proofs.Refusals.{Fits, common-fit, Taken, taken}
 use Rattle.algorithm.proofs.Seen.{count-voted}
 use Rattle.algorithm.proofs.Sound.{SoundTable, table-sound, here-sound}
 use Rattle.algorithm.proofs.Fetches.{refused-next, stopped, some-copied, copied-most}

@@ -18,7 +18,7 @@ use Rattle.algorithm.specs.Run.{step, play, pieces, run_to}
 use Rattle.algorithm.proofs.Full.{CanCommit}
 use Rattle.algorithm.proofs.Logless.{core}
 use Rattle.algorithm.proofs.Logs.{HasEntry}
-use Rattle.algorithm.proofs.Refused.{refused-stays}
+use Rattle.algorithm.proofs.Refusals.{refused-stays}
 use Rattle.algorithm.proofs.Seen.{view, within-width}
 use Rattle.algorithm.proofs.Sound.{SoundServer, SoundTable, table-sound, here-sound}
 use Rattle.algorithm.proofs.Kept.{step-sound, fresh-sound}

@@ -14,9 +14,7 @@ use Rattle.members.specs.Members.{passing}
 use Rattle.members.proofs.Masks.{and_both}
 use Rattle.words.specs.Lists.{nth, part}
 use Rattle.algorithm.specs.Table.{Table, count, server, mark, positions, held}
-use Rattle.algorithm.specs.Actions.{same_term, some_marked, holds_marked, holds_committed, supports_at}
-use Rattle.table.specs.Layout.{table_in}
-use Rattle.table.specs.Slice.{Held}
+use Rattle.algorithm.specs.Actions.{same_term, some_marked, holds_marked, supports_at}
 use Rattle.questions.specs.Questions.{narrowed_at, narrowed_past}
 
 -- ---- some position is marked
@@ -33,50 +31,44 @@ some_more (m ∷ l) (suc k) v h = ap (λ (b : Bool). eqb m v || b) (some_more l 
     turned true false c = refl
     turned false b c = refl
 
-module _ {b : List ℕ} (held : Held b) (o v : ℕ) where
-  abbrev t : Table
-  t = table_in b
+pub marked-none : (v : ℕ) → false ≡ some_marked [] v
+unfolding some_marked
+marked-none v = refl
 
+module _ (t : Table) (marked : length t.marks ≡ positions) (o v : ℕ) where
   marked_more : (k : ℕ) → o + k < positions → some_marked (part t.marks o (suc k)) v ≡ (eqb (mark t (o + suc k)) v || some_marked (part t.marks o k) v)
   unfolding nth
   marked_more k l =
-      some_more (drop o t.marks) k v (simp length-drop (omega (arith, held.shaped.marked)))
+      some_more (drop o t.marks) k v (simp length-drop (omega (arith, marked)))
       ∙ rw (get_or-drop o t.marks k 0, add-suc o k)
 
-  pub marked-none : false ≡ some_marked (part t.marks o 0) v
-  unfolding some_marked
-  marked-none = refl
-
-  pub marked_next : (k n m w : ℕ) (r s : Bool) → o + n ≤ positions → k < n → r ≡ some_marked (part t.marks o k) v → s ≡ eqb m w → m ≡ mark t (o + (k + 1)) → w ≡ v
+  pub marked_next : (k n m w : ℕ) (r s : Bool) → o + n ≤ positions → k < n → r ≡ some_marked (part t.marks o k) v → s ≡ eqb m w → m ≡ mark t (o + k + 1) → w ≡ v
       → (s || r) ≡ some_marked (part t.marks o (k + 1)) v
-  marked_next k n m w r s l h e c f g = rw (e, c, f, g, add-one) (sym (marked_more k (omega arith)))
-
-  pub marked_all : (k n : ℕ) (r : Bool) → k ≤ n → n ≤ k → r ≡ some_marked (part t.marks o k) v → r ≡ some_marked (part t.marks o n) v
-  marked_all k n r l h e = let all : k ≡ n = omega arith in rw all at e
+  marked_next k n m w r s l h e c f g = rw (e, c, f, g, add-one k, add-one (o + k), ← add-suc o k) (sym (marked_more k (omega arith)))
 
 -- of all positions
-pub marked-any : {b : List ℕ} (v : ℕ) (r : Bool) → Held b → r ≡ some_marked (part (table_in b).marks 0 positions) v → r ≡ some_marked (table_in b).marks v
-marked-any {b} v r held e = e ∙ ap (λ (l : List ℕ). some_marked l v) (take_all positions (table_in b).marks (omega (arith, held.shaped.marked)))
+pub marked-any : (l : List ℕ) (v : ℕ) (r : Bool) → length l ≡ positions → r ≡ some_marked (part l 0 positions) v → r ≡ some_marked l v
+marked-any l v r marked e = e ∙ ap (λ (l : List ℕ). some_marked l v) (take_all positions l (omega (arith, marked)))
 
 -- ---- a set narrowed
 
-module _ {b : List ℕ} (held : Held b) (o i q : ℕ) where
+module _ (t : Table) (marked : length t.marks ≡ positions) (o i q : ℕ) where
   abbrev T : ℕ
-  T = (server (table_in b) i).term
+  T = (server t i).term
 
   -- where no position is marked it stays
-  unmarked : (k : ℕ) → o + k ≤ positions → some_marked (part (table_in b).marks o k) T ≡ false → q ≡ narrowed_past o k (table_in b) i q
+  unmarked : (k : ℕ) → o + k ≤ positions → some_marked (part t.marks o k) T ≡ false → q ≡ narrowed_past o k t i q
   unfolding narrowed_past
   unmarked zero l e = refl
   unmarked (suc k) l e =
-      let none = apart (eqb (mark (table_in b) (o + suc k)) T) (some_marked (part (table_in b).marks o k) T) (sym (marked_more held o T k (omega arith)) ∙ e) in
+      let none = apart (eqb (mark t (o + suc k)) T) (some_marked (part t.marks o k) T) (sym (marked_more t marked o T k (omega arith)) ∙ e) in
       unmarked k (omega arith) none.1 ∙ rw none.0
     where
       apart : (a b : Bool) → (a || b) ≡ false → (a ≡ false) × (b ≡ false)
       apart true b e = absurd (let z : ◌≡◌ {A = ℕ} 0 1 = cc in omega arith)
       apart false b e = (refl, e)
 
-  pub past-unmarked : (k : ℕ) (r : Bool) → o + k ≤ positions → r ≡ some_marked (part (table_in b).marks o k) T → not r ≡ true → q ≡ narrowed_past o k (table_in b) i q
+  pub past-unmarked : (k : ℕ) (r : Bool) → o + k ≤ positions → r ≡ some_marked (part t.marks o k) T → not r ≡ true → q ≡ narrowed_past o k t i q
   past-unmarked k r l e h = unmarked k l (sym e ∙ not-true r h)
 
 module _ (o : ℕ) (t : Table) (i q : ℕ) where
@@ -84,21 +76,11 @@ module _ (o : ℕ) (t : Table) (i q : ℕ) where
   unfolding narrowed_past
   past-none = refl
 
-  pub past_next : (k m r : ℕ) → m ≡ narrowed_past o k t i q → r ≡ narrowed_at t i (o + (k + 1)) m → r ≡ narrowed_past o (k + 1) t i q
+  pub past_next : (k m r : ℕ) → m ≡ narrowed_past o k t i q → r ≡ narrowed_at t i (o + k + 1) m → r ≡ narrowed_past o (k + 1) t i q
   unfolding narrowed_past
-  past_next k m r e f = f ∙ rw (e, add-one)
-
-  pub past_all : (k m : ℕ) → k ≤ 8 → 8 ≤ k → m ≡ narrowed_past o k t i q → m ≡ narrowed_past o 8 t i q
-  past_all k m l h e = let all : k ≡ 8 = omega arith in rw all at e
+  past_next k m r e f = f ∙ rw (e, add-one k, add-one (o + k), ← add-suc o k)
 
 -- ---- every marked position is held
-
-module _ (t : Table) (i q p x v : ℕ) (s : Bool) (o : s ≡ eqb x v) (e : x ≡ mark t p) (f : v ≡ (server t i).term) where
-  pub marked-at : (r : ℕ) → s ≡ true → r ≡ passing (count t) (supports_at t i p) q → r ≡ narrowed_at t i p q
-  marked-at r h g = rw (← e, ← f, ← o, h) g
-
-  pub marked-not : s ≡ false → q ≡ narrowed_at t i p q
-  marked-not h = rw (← e, ← f, ← o, h)
 
 module _ (t : Table) (i q : ℕ) where
   -- server s has i's term and holds what is marked with it at positions 1 to k
@@ -150,6 +132,3 @@ module _ (t : Table) (i q : ℕ) where
 
   pub holding-eight : (k m r : ℕ) → Holding (8 * k) m → r ≡ narrowed_past (8 * k) 8 t i m → Holding (8 * (k + 1)) r
   holding-eight k m r h e = let next : 8 * (k + 1) ≡ 8 * k + 8 = omega arith in rw (next, e) (holding-more 8 (8 * k) m h)
-
-  pub holding-all : (k m : ℕ) → k ≤ 8 → 8 ≤ k → Holding (8 * k) m → m ≡ passing (count t) (holds_committed t i) q
-  holding-all k m l h o = let all : 8 * k ≡ positions = omega arith in rw all at o.are

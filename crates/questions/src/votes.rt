@@ -1,13 +1,12 @@
 // What the members of a set have against an election.
-ghost use Rattle.std.specs.Prelude.{◌≡◌, ◌+◌};
-ghost use Rattle.algorithm.specs.Table.{count};
-ghost use Rattle.table.specs.Layout.{table_in};
-ghost use Rattle.table.specs.Slice.{Held, Within};
+ghost use Rattle.std.specs.Prelude.{◌≡◌, ◌≤◌};
+ghost use Rattle.algorithm.specs.Table.{count, most_servers};
+ghost use Rattle.table.specs.Slice.{Within};
 ghost use Rattle.questions.specs.Questions.{objecting};
 
 use comparisons::{larger_term, log_ahead, newer_config};
 use members::with_next;
-use table::rows::count_of;
+use table::Table;
 
 // Those with a larger term, those with a newer configuration, those whose log is ahead.
 #[derive(Clone, Copy)]
@@ -17,40 +16,24 @@ pub struct Objections {
     pub ahead: u16,
 }
 
-// What server k + 1, bit k of q, has to add. The branch stands here and not in the loop, whose invariant would have to speak of both ways.
-fn hear(o: Objections, t: &[u8], i: usize, q: u16, k: usize) -> Objections
-    requires held { Held t.now }
+pub fn poll(t: &Table<'_>, i: usize, q: u16) -> Objections
     requires within { Within t.now i }
-    requires within_2 { Within t.now (k + 1) }
-    requires o_value { o ≡ objecting (table_in t.now) i q k }
-    ensures { result ≡ objecting (table_in t.now) i q (k + 1) }
+    ensures value { result ≡ objecting t.now i q (count t.now) }
+    ensures few { count t.now ≤ most_servers }
 {
-    if (q >> k) % 2 == 1 {
-        let s = k + 1;
-        return Objections {
-            larger: with_next(o.larger, k, larger_term(t, i, s)),
-            newer: with_next(o.newer, k, newer_config(t, i, s)),
-            ahead: with_next(o.ahead, k, log_ahead(t, i, s)),
-        };
+    let mut larger = 0;
+    let mut newer = 0;
+    let mut ahead = 0;
+    for k in 0..t.count() as usize {
+        if (q >> k) % 2 == 1 {
+            larger = with_next(larger, k, larger_term(t, i, k + 1));
+            newer = with_next(newer, k, newer_config(t, i, k + 1));
+            ahead = with_next(ahead, k, log_ahead(t, i, k + 1));
+        }
     }
-    o
-}
-
-pub fn poll(t: &[u8], i: usize, q: u16) -> Objections
-    requires held { Held t.now }
-    requires within { Within t.now i }
-    ensures { result ≡ objecting (table_in t.now) i q (count (table_in t.now)) }
-{
-    let n = count_of(t) as usize;
-    let mut o = Objections {
-        larger: 0,
-        newer: 0,
-        ahead: 0,
-    };
-    let mut k: usize = 0;
-    while k < n {
-        o = hear(o, t, i, q, k);
-        k += 1;
+    Objections {
+        larger,
+        newer,
+        ahead,
     }
-    o
 }

@@ -15,7 +15,7 @@ use Rattle.table.specs.declared.figures.Figures.{Figures}
 use Rattle.table.specs.Layout.{padded, table_in}
 use Rattle.words.proofs.Lists.{replace-nth, nth-replaced}
 use Rattle.table.proofs.HeldLaws.{its-table, again}
-use Rattle.image.specs.Contents.{count_in, wide_in, rule_in, floor_in, body, marks_in, server_in, Names, Named, Sized}
+use Rattle.image.specs.Contents.{count_in, wide_in, rule_in, floor_in, body, marks_in, server_in, Sized}
 use Rattle.image.proofs.LogLaws.{log-short}
 use Rattle.reader.specs.Reader.{servers_to, read_table, unread}
 
@@ -43,7 +43,7 @@ module _ (b₀ b d : List ℕ) (s w : ℕ) where
       record { became = stays h (λ i. with_servers (empty i) t) }
 
   module _ (n k : ℕ) (many : n ≡ length (server_in w d).log) (g : Logged b₀ b s w d k) where
-    pub log-room : Within b₀ s → k < n → Sized w 1 d → length (server (table_in b) s).log < positions
+    pub log-room : Within (table_in b₀) s → k < n → Sized w 1 d → length (server (table_in b) s).log < positions
     log-room v h z =
         let l = (server_in w d).log in
         let t = table_in b₀ in
@@ -51,7 +51,7 @@ module _ (b₀ b d : List ℕ) (s w : ℕ) where
         ap (λ (x : Table). server x s) (its-table g.became.holds) ∙ nth-replaced t.servers s _ absent v.some v.known in
         rw here (omega (arith, length-take-le k l (omega arith), log-short d w z))
 
-    pub log-more : (b' : List ℕ) (T B : ℕ) → Within b₀ s → k < n → T ≡ term_at (server_in w d).log (k + 1) → B ≡ bake_at (server_in w d).log (k + 1)
+    pub log-more : (b' : List ℕ) (T B : ℕ) → Within (table_in b₀) s → k < n → T ≡ term_at (server_in w d).log (k + 1) → B ≡ bake_at (server_in w d).log (k + 1)
         → Became b b' (changed (table_in b) s (with_entry (entry_of T B))) → Logged b₀ b' s w d (k + 1)
     unfolding nth
     log-more b' T B v h et eb c =
@@ -64,12 +64,9 @@ module _ (b₀ b d : List ℕ) (s w : ℕ) where
               (again (with_log (take k l)) (with_entry (entry_of T B)) v g.became c);
         }
 
-    pub log-all : n ≤ k → Became b₀ b (changed (table_in b₀) s (with_log (server_in w d).log))
-    log-all h = rw (take_all k (server_in w d).log (omega arith)) at g.became
-
 -- ---- a server
 
-pub figures-put : (b b₁ b₂ b₃ : List ℕ) (s : ℕ) (f : Figures) → Within b s → Became b b₁ (changed (table_in b) s (with_role f.role))
+pub figures-put : (b b₁ b₂ b₃ : List ℕ) (s : ℕ) (f : Figures) → Within (table_in b) s → Became b b₁ (changed (table_in b) s (with_role f.role))
     → Became b₁ b₂ (changed (table_in b₁) s (with_term f.term.0))
     → Became b₂ b₃ (changed (table_in b₂) s (with_config (config_of f.set f.version.0 f.config.0)))
     → Became b b₃ (with_server (table_in b) s (figured f (server (table_in b) s).log))
@@ -77,7 +74,7 @@ figures-put b b₁ b₂ b₃ s f w p q u =
     let C : Config = config_of f.set f.version.0 f.config.0 in
     again (λ x. with_term f.term.0 (with_role f.role x)) (with_config C) w (again (with_role f.role) (with_term f.term.0) w p q) u
 
-pub server-filled : (b b₁ b₂ d : List ℕ) (s w : ℕ) (f : Figures) → Within b s → Became b b₁ (changed (table_in b) s (with_log (server_in w d).log))
+pub server-filled : (b b₁ b₂ d : List ℕ) (s w : ℕ) (f : Figures) → Within (table_in b) s → Became b b₁ (changed (table_in b) s (with_log (server_in w d).log))
     → f ≡ figures_of (server_in 0 d) → Became b₁ b₂ (with_server (table_in b₁) s (figured f (server (table_in b₁) s).log))
     → Became b b₂ (with_server (table_in b) s (server_in w d))
 server-filled b b₁ b₂ d s w f v p e q =
@@ -123,61 +120,73 @@ module _ (b₀ b d : List ℕ) where
 abbrev partly : List ℕ → ℕ → Table
 partly im k = with_servers (servers_to k im ++ replicate (count_in im - k) absent) (read_table im)
 
-pub record Filled (im b : List ℕ) (k : ℕ) : Type 0 where
-  pub within : k ≤ count_in im
-  pub holds : Holds b (partly im k)
+-- all servers before s are filled
+pub record Filled (im b : List ℕ) (s : ℕ) : Type 0 where
+  pub filled : ℕ
+  pub next : s ≡ filled + 1
+  pub within : filled ≤ count_in im
+  pub holds : Holds b (partly im filled)
 
 pub length-servers : (k : ℕ) (im : List ℕ) → length (servers_to k im) ≡ k
 unfolding servers_to
 length-servers zero im = refl
 length-servers (suc k) im = length-append (servers_to k im) _ ∙ rw (length-servers k im, add-one)
 
-module _ (im b : List ℕ) (n : ℕ) (e : n ≡ count_in im) where
-  pub filled_none : Holds b (unread im) → Filled im b 0
-  unfolding servers_to unread
-  filled_none h =
-      let all : count_in im - 0 ≡ count_in im = omega arith in
-      record { within = omega arith; holds = rw all h }
+pub filled-none : (im b : List ℕ) → Holds b (unread im) → Filled im b 1
+unfolding servers_to unread
+filled-none im b h =
+    let all : count_in im - 0 ≡ count_in im = omega arith in
+    record { filled = 0; next = refl; within = omega arith; holds = rw all h }
 
-  module _ (k : ℕ) (g : Filled im b k) where
-    pub filled_within : k < n → Within b (k + 1)
-    filled_within h =
-        record {
-          some = omega arith;
-          known =
-              rw (its-table g.holds)
-              (simp (length-append, length-replicate) (omega (arith, length-servers k im, g.within)));
-        }
+module _ (im b : List ℕ) (n s : ℕ) (e : n ≡ count_in im) (g : Filled im b s) where
+  abbrev k : ℕ
+  k = g.filled
 
-    pub filled-empty : k < n → (server (table_in b) (k + 1)).log ≡ []
-    unfolding nth
-    filled-empty h =
-        let left : count_in im - k ≡ suc (count_in im - suc k) = omega arith in
-        rw (its-table g.holds, add-one k, left, get_or_at (servers_to k im) absent (replicate (count_in im - suc k) absent) absent k (length-servers k im))
+  pub filled_within : s ≤ n → Within (table_in b) s
+  filled_within h =
+      record {
+        some = omega (arith, g.next);
+        known =
+            rw (its-table g.holds)
+            (simp (length-append, length-replicate) (omega (arith, length-servers k im, g.within, g.next)));
+      }
 
-    pub filled_more : (b' d : List ℕ) → k < n → d ≡ body im (k + 1) → Became b b' (with_server (table_in b) (k + 1) (server_in (wide_in im) d)) → Filled im b' (k + 1)
-    unfolding replace servers_to
-    filled_more b' d h p c =
-        let s = server_in (wide_in im) (body im (suc k)) in
-        let front = servers_to k im in
-        let rest = replicate (count_in im - suc k) absent in
-        let left : count_in im - k ≡ suc (count_in im - suc k) = omega arith in
-        let next : with_server (partly im k) (k + 1) (server_in (wide_in im) (body im (k + 1))) ≡ partly im (k + 1) =
-        rw (add-one k, left, set_at front absent rest s k (length-servers k im), append_snoc front s rest) in
-        record { within = omega arith; holds = subst (λ (t : Table). Holds b' t) next (rw (its-table g.holds, p) at c.holds) }
+  pub filled-empty : s ≤ n → (server (table_in b) s).log ≡ []
+  unfolding nth
+  filled-empty h =
+      let left : count_in im - k ≡ suc (count_in im - suc k) = omega (arith, g.next) in
+      rw (its-table g.holds, g.next, add-one k, left, get_or_at (servers_to k im) absent (replicate (count_in im - suc k) absent) absent k (length-servers k im))
 
-    pub filled-all : n ≤ k → Holds b (read_table im)
-    filled-all h =
-        let all : k ≡ count_in im = omega (arith, g.within) in
-        let none : count_in im - k ≡ 0 = omega arith in
-        let every : (partly im k).servers ≡ (read_table im).servers =
-        ap (λ (j : ℕ). servers_to k im ++ replicate j absent) none ∙ append-nil (servers_to k im) ∙ ap (λ (j : ℕ). servers_to j im) all in
-        subst (λ (ss : List Server). Holds b (with_servers ss (read_table im))) every g.holds
+  pub filled_more : (b' d : List ℕ) → s ≤ n → d ≡ body im s → Became b b' (with_server (table_in b) s (server_in (wide_in im) d)) → Filled im b' (s + 1)
+  unfolding replace servers_to
+  filled_more b' d h p c =
+      let a = server_in (wide_in im) (body im (suc k)) in
+      let front = servers_to k im in
+      let rest = replicate (count_in im - suc k) absent in
+      let left : count_in im - k ≡ suc (count_in im - suc k) = omega (arith, g.next) in
+      let next : with_server (partly im k) (k + 1) (server_in (wide_in im) (body im (k + 1))) ≡ partly im (k + 1) =
+      rw (add-one k, left, set_at front absent rest a k (length-servers k im), append_snoc front a rest) in
+      let its : d ≡ body im (k + 1) = p ∙ ap (body im) g.next in
+      let here : with_server (table_in b) s (server_in (wide_in im) d) ≡ with_server (partly im k) (k + 1) (server_in (wide_in im) (body im (k + 1))) =
+      λ i. with_server (its-table g.holds i) (g.next i) (server_in (wide_in im) (its i)) in
+      record {
+        filled = k + 1;
+        next = omega (arith, g.next);
+        within = omega (arith, g.next);
+        holds = subst (λ (t : Table). Holds b' t) (here ∙ next) c.holds;
+      }
+
+  -- the last one
+  pub filled-last : (b' d : List ℕ) → s ≤ n → n ≤ s → d ≡ body im s → Became b b' (with_server (table_in b) s (server_in (wide_in im) d)) → Holds b' (read_table im)
+  filled-last b' d h l p c =
+      let f = filled_more b' d h p c in
+      let all : f.filled ≡ count_in im = omega (arith, f.next, f.within) in
+      let none : count_in im - f.filled ≡ 0 = omega arith in
+      let every : (partly im f.filled).servers ≡ (read_table im).servers =
+      ap (λ (j : ℕ). servers_to f.filled im ++ replicate j absent) none ∙ append-nil _ ∙ ap (λ (j : ℕ). servers_to j im) all in
+      subst (λ (ss : List Server). Holds b' (with_servers ss (read_table im))) every f.holds
 
 -- ---- the marks among a blank table
-
-pub marks-named : (im : List ℕ) → Named im → Names im 0
-marks-named im h = h.each 0 (omega arith)
 
 pub blank-marks : (b : List ℕ) (n R F : ℕ) → Holds b (blank n R F) → (table_in b).marks ≡ replicate positions 0
 blank-marks b n R F h = ap (λ (t : Table). t.marks) (its-table h)

@@ -1,60 +1,27 @@
 -- The reply by the tests that lead to it, and what an image that is read fulfils. Assumes nothing.
 use Prim.Native.Nat.{ℕ, ◌+◌, ◌*◌, ◌%◌, ◌≤◌, ◌<◌}
 use native.Mathlib.Omega.{arith}
-use mathlib.Core.Path.{◌≡◌, sym, ◌∙◌}
-use mathlib.Core.Bool.{Bool, true, false, not, ◌&&◌}
+use mathlib.Core.Path.{◌≡◌, refl, ap, sym, ◌∙◌}
+use mathlib.Core.Bool.{◌&&◌}
 use mathlib.Core.List.{List}
 use lib.Dec.{leb, eqb}
 use lib.ListN.{length, get_or}
-use borrow.Author.Tests.{lt-ltb, le-ltb, eq-eqb, ne_eqb, not-false}
+use borrow.Author.Tests.{eq-eqb, ne_eqb}
 use Rattle.words.proofs.Tests.{Passes, both, refuted, equal, at_most}
 use Rattle.words.specs.Lists.{every, between}
-use Rattle.algorithm.specs.Table.{positions, most_servers, sound_count}
-use Rattle.words.specs.Refusal.{first}
-use Rattle.words.proofs.RefusalLaws.{none-hold}
+use Rattle.std.specs.Prelude.{Ok, Err}
+use Rattle.algorithm.specs.declared.Refused.{Refused}
+use Rattle.algorithm.specs.Run.{told, answer_of, result_of}
+use Rattle.algorithm.specs.Table.{positions, most_servers}
+use Rattle.words.specs.Refusal.{nothing, Answer, answer}
+use Rattle.words.proofs.RefusalLaws.{none-hold, given-each}
 use Rattle.table.specs.Layout.{table_bytes, stored}
 use Rattle.table.specs.Slice.{Holds}
 use Rattle.table.proofs.StoredLaws.{held-stored}
 use Rattle.image.specs.Contents as Contents
 use Rattle.image.specs.Contents.{count_in, wide_in, offset, size, stop, first_body, start, fixed, item_bytes, may_have, laid, laid_out, sound_bodies, Names, Named}
-use Rattle.reader.specs.Reader.{read_refusals, read_reply, read_table, read_end, read_bytes, end_after}
+use Rattle.reader.specs.Reader.{read_refusals, read_reply, read_table, read_end, read_result, read_bytes, end_after, ReadAnswer}
 use Rattle.words.proofs.BelowLaws.{all-below}
-
--- ---- the refusals one by one
-
-module _ (im slice : List ℕ) where
-  pub reply-1 : (length slice ≡ table_bytes → ⊥) → 1 ≡ read_reply im slice
-  unfolding read_reply first
-  reply-1 h = rw (ne_eqb (length slice) table_bytes h)
-
-  module _ (sized : length slice ≡ table_bytes) where
-    pub reply-30 : length im < 8 → 30 ≡ read_reply im slice
-    unfolding read_reply first
-    reply-30 h = rw (eq-eqb (length slice) table_bytes sized, lt-ltb (length im) 8 h)
-
-    module _ (long : 8 ≤ length im) (o : Bool) (eo : o ≡ Contents.opened im) where
-      pub reply-31 : not o ≡ true → 31 ≡ read_reply im slice
-      unfolding read_reply first
-      reply-31 h = rw (eq-eqb (length slice) table_bytes sized, le-ltb (length im) 8 long, ← eo, h)
-
-      module _ (ho : not o ≡ false) (n : Bool) (en : n ≡ sound_count (count_in im)) where
-        pub reply-32 : not n ≡ true → 32 ≡ read_reply im slice
-        unfolding read_reply first
-        reply-32 h = rw (eq-eqb (length slice) table_bytes sized, le-ltb (length im) 8 long, ← eo, ho, ← en, h)
-
-        module _ (hn : not n ≡ false) (l : Bool) (el : l ≡ laid_out im) where
-          pub reply-33 : not l ≡ true → 33 ≡ read_reply im slice
-          unfolding read_reply first
-          reply-33 h = rw (eq-eqb (length slice) table_bytes sized, le-ltb (length im) 8 long, ← eo, ho, ← en, hn, ← el, h)
-
-          module _ (hl : not l ≡ false) (b : Bool) (eb : b ≡ sound_bodies im) where
-            pub reply-34 : not b ≡ true → 34 ≡ read_reply im slice
-            unfolding read_reply first
-            reply-34 h = rw (eq-eqb (length slice) table_bytes sized, le-ltb (length im) 8 long, ← eo, ho, ← en, hn, ← el, hl, ← eb, h)
-
-            pub reply-0 : not b ≡ false → 0 ≡ read_reply im slice
-            unfolding read_reply first
-            reply-0 h = rw (eq-eqb (length slice) table_bytes sized, le-ltb (length im) 8 long, ← eo, ho, ← en, hn, ← el, hl, ← eb, h)
 
 -- ---- an image that is laid out
 
@@ -85,12 +52,9 @@ extents im h e l =
     let complete : first_body (count_in im) ≤ length im = at_most room in
     extent im e (omega arith) (all-below (count_in im + 1) (laid im) all e (omega arith))
 
-named : (im : List ℕ) → Passes (laid_out im) → Named im
+pub named : (im : List ℕ) → Passes (laid_out im) → Named im
 unfolding laid_out
 named im h = record { complete = at_most (both h).0; each = λ e l. (extents im h e l).names }
-
-pub named_by : (im : List ℕ) (l : Bool) → l ≡ laid_out im → not l ≡ false → Named im
-named_by im l e h = named im (record { yes = rw (← e, not-false l h) tt })
 
 -- ---- an image that is read
 
@@ -115,12 +79,6 @@ module _ (im slice : List ℕ) (k : ℕ) (e : k ≡ read_reply im slice) where
     pub read-sized : length slice ≡ table_bytes
     read-sized = (readable im slice (sym e ∙ h)).sized
 
-    pub read-few : count_in im ≤ most_servers
-    read-few = (readable im slice (sym e ∙ h)).few
-
-    pub read_named : Named im
-    read_named = (readable im slice (sym e ∙ h)).named
-
     pub read-into : read_bytes im slice ≡ stored (read_table im)
     read-into = rw (eq-eqb (read_reply im slice) 0 (sym e ∙ h))
 
@@ -130,15 +88,28 @@ module _ (im slice : List ℕ) (k : ℕ) (e : k ≡ read_reply im slice) where
     pub read-upto : (at : ℕ) → end_after im slice at ≡ read_end im
     read-upto at = rw (eq-eqb (read_reply im slice) 0 (sym e ∙ h))
 
-    pub read-end : (at z : ℕ) → z ≡ read_end im → z ≡ end_after im slice at
-    read-end at z f = f ∙ sym (read-upto at)
+  pub kept-bytes : (k ≡ 0 → ⊥) → slice ≡ read_bytes im slice
+  kept-bytes h = rw (ne_eqb (read_reply im slice) 0 (λ z. h (e ∙ z)))
 
-  module _ (h : k ≡ 0 → ⊥) where
-    pub kept-bytes : slice ≡ read_bytes im slice
-    kept-bytes = rw (ne_eqb (read_reply im slice) 0 (λ z. h (e ∙ z)))
+-- ---- what is answered, as a result or as a number and an end
 
-    pub kept-end : (at : ℕ) → at ≡ end_after im slice at
-    kept-end at = rw (ne_eqb (read_reply im slice) 0 (λ z. h (e ∙ z)))
+-- the number of an answer that shows nothing is told of its result again
+abbrev pub Told : Answer → Type 0
+Told a = (z : ℕ) → (answer_of (result_of (answer a.number nothing) z)).number ≡ a.number
 
-pub end_read : (im : List ℕ) (n z : ℕ) → n ≡ count_in im → z ≡ stop im n → z ≡ read_end im
-end_read im n z e h = rw e at h
+read-told : (im slice : List ℕ) → (answer_of (read_result im slice)).number ≡ read_reply im slice
+unfolding read_reply
+read-told im slice =
+    given-each Told (read_refusals im slice) (λ z. refl)
+    (λ _ z. refl, (λ _ z. refl, (λ _ z. refl, (λ _ z. refl, (λ _ z. refl, (λ _ z. refl, tt)))))) (read_end im)
+
+module _ (im slice slice' : List ℕ) (e : ℕ) where
+  pub answered-ok : (place : ℕ) → Ok place ≡ read_result im slice → slice' ≡ read_bytes im slice → ReadAnswer im slice e 0 slice' place
+  answered-ok place h b =
+      let reply : 0 ≡ read_reply im slice = ap (λ r. (answer_of r).number) h ∙ read-told im slice in
+      record { reply = reply; bytes = b; end = grind arith }
+
+  pub answered-err : (n : ℕ) (r : Refused) → n ≡ (told r).number → Err r ≡ read_result im slice → slice' ≡ read_bytes im slice → ReadAnswer im slice e n slice' e
+  answered-err n r k h b =
+      let reply : n ≡ read_reply im slice = k ∙ ap (λ r. (answer_of r).number) h ∙ read-told im slice in
+      record { reply = reply; bytes = b; end = grind arith }

@@ -1,6 +1,8 @@
 -- The reader: its refusals, what it gives where none holds, and the table while it is filled. Assumes nothing.
-use Rattle.std.specs.Prelude.{ℕ, zero, suc, not, ◌≡◌, List, [], ◌∷◌, ◌++◌, ltb, eqb, length}
-use Rattle.words.specs.Refusal.{Refusal, refuse, first, unless_refused}
+use Rattle.std.specs.Prelude.{ℕ, zero, suc, not, ◌≡◌, List, [], ◌∷◌, ◌++◌, ltb, eqb, length, Result}
+use Rattle.words.specs.Refusal.{nothing, Refusal, refuse, first, answer, unless_refused}
+use Rattle.algorithm.specs.declared.Refused.{Refused}
+use Rattle.algorithm.specs.Run.{result_of, verdict_of}
 use Rattle.algorithm.specs.Table.{Server, Table, with_marks, sound_count}
 use Rattle.table.specs.Layout.{table_bytes, stored}
 use Rattle.table.specs.Slice.{blank}
@@ -21,6 +23,10 @@ read_refusals im slice =
 unfoldable pub read_reply : List ℕ → List ℕ → ℕ
 read_reply im slice = first (read_refusals im slice)
 
+-- the refusal with that number, or nothing to tell: read
+abbrev pub read_verdict : List ℕ → List ℕ → Result (Unit {0}) Refused
+read_verdict im slice = verdict_of (answer (read_reply im slice) nothing)
+
 -- the first k servers
 unfoldable pub servers_to : ℕ → List ℕ → List Server
 servers_to zero im = []
@@ -33,6 +39,10 @@ read_table im = record { servers = servers_to (count_in im) im; marks = marks_in
 -- where the bytes after the image begin
 abbrev pub read_end : List ℕ → ℕ
 read_end im = stop im (count_in im)
+
+-- what is answered: the refusal, or that place
+abbrev pub read_result : List ℕ → List ℕ → Result ℕ Refused
+read_result im slice = result_of (answer (read_reply im slice) nothing) (read_end im)
 
 -- the slice afterwards: refused, it is as it was
 abbrev pub read_bytes : List ℕ → List ℕ → List ℕ

@@ -17,22 +17,19 @@ use words::word;
 // The log of a body for server s, which has none yet.
 fn put_log(t: &mut [u8], s: usize, b: &[u8], width: u8)
     requires held { Held t.old }
-    requires within { Within t.old s }
+    requires within { Within (table_in t.old) s }
     requires s_value { (server (table_in t.old) s).log ≡ [] }
     requires sized { Sized width 1 b.now }
     ensures { Became t.old t.new (changed (table_in t.old) s (with_log (server_in width b.now).log)) }
 {
-    let n = entries_in(b, width);
-    let mut k: usize = 0;
-    while k < n {
+    for k in 0..entries_in(b, width) {
         push(t, s, term_in(b, width, k), bake_in(b, width, k));
-        k += 1;
     }
 }
 
 fn put_figures(t: &mut [u8], s: usize, f: Figures)
     requires held { Held t.old }
-    requires within { Within t.old s }
+    requires within { Within (table_in t.old) s }
     requires set_bound { f.set < 65536 }
     ensures { Became t.old t.new (with_server (table_in t.old) s (figured f (server (table_in t.old) s).log)) }
 {
@@ -43,7 +40,7 @@ fn put_figures(t: &mut [u8], s: usize, f: Figures)
 
 fn put_server(t: &mut [u8], s: usize, b: &[u8], width: u8)
     requires held { Held t.old }
-    requires within { Within t.old s }
+    requires within { Within (table_in t.old) s }
     requires s_value { (server (table_in t.old) s).log ≡ [] }
     requires sized { Sized width 1 b.now }
     ensures { Became t.old t.new (with_server (table_in t.old) s (server_in width b.now)) }
@@ -60,12 +57,8 @@ fn put_marks(t: &mut [u8], b: &[u8])
     requires b_len_bound { length b.now ≤ 4 * positions }
     ensures { Became t.old t.new (with_marks (marks_in b.now) (table_in t.old)) }
 {
-    let n = (b.len() / 4) as u8;
-    let mut k: u8 = 0;
-    while k < n {
-        let v = word(b, k as usize);
-        k += 1;
-        put_mark(t, Position(k), Term(v));
+    for k in 0..b.len() / 4 {
+        put_mark(t, Position(k as u8 + 1), Term(word(b, k)));
     }
 }
 
@@ -85,10 +78,7 @@ fn fill_servers(t: &mut [u8], image: &[u8])
     requires named { Named image.now }
     ensures { Holds t.new (read_table image.now) }
 {
-    let n = count_of(image);
-    let mut s: usize = 0;
-    while s < n {
-        s += 1;
+    for s in 1..=count_of(image) {
         put_server(t, s, body_of(image, s), image[5]);
     }
 }

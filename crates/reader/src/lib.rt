@@ -2,58 +2,58 @@
 #![tactic(auto)]
 
 ghost use Rattle.std.specs.Prelude.{◌≡◌};
-ghost use Rattle.reader.specs.Reader.{read_reply, read_end, ReadAnswer};
+ghost use Rattle.reader.specs.Reader.{read_verdict, read_end, read_result, read_bytes};
 ghost use Rattle.image.specs.Contents.{Named};
 
 use crate::fill::fill;
+use algorithm::Refused;
 use image::bodies::are_sound;
 use image::contents::{count_of, is_counted, is_laid_out, is_opened, stop_of};
 use table::BYTES;
 
 mod fill;
 
-// The reply's number. Each test stands on those before it: contents are read once they are known to be complete, and bodies once they
-// are known to lie within the image.
-fn judge(image: &[u8], table: &[u8]) -> u32
-    ensures { result ≡ read_reply image.now table.now }
+// Each test stands on those before it: contents are read once they are known to be complete, and bodies once they are known to lie within
+// the image.
+#[tactic(auto, using(crate::proofs::ReplyLaws::named), unfolding(crate::specs::Reader::read_reply, words::specs::Refusal::first))]
+fn judge(image: &[u8], table: &[u8]) -> Result<(), Refused>
+    ensures { result ≡ read_verdict image.now table.now }
 {
     if table.len() != BYTES {
-        return 1;
+        return Err(Refused::Broken);
     }
     if image.len() < 8 {
-        return 30;
+        return Err(Refused::Short);
     }
     if !is_opened(image) {
-        return 31;
+        return Err(Refused::NotOpened);
     }
     if !is_counted(image) {
-        return 32;
+        return Err(Refused::Servers);
     }
     if !is_laid_out(image) {
-        return 33;
+        return Err(Refused::NotLaidOut);
     }
     if !are_sound(image) {
-        return 34;
+        return Err(Refused::Unsound);
     }
-    0
+    Ok(())
 }
 
-fn end_of(image: &[u8]) -> u64
+fn end_of(image: &[u8]) -> usize
     requires { Named image.now }
     ensures { result ≡ read_end image.now }
 {
-    stop_of(image, count_of(image)) as u64
+    stop_of(image, count_of(image))
 }
 
-// Reads an image into a table's slice, and puts into `end` where the bytes after the image begin. Refused, it touches neither.
-pub fn read(image: &[u8], table: &mut [u8], end: &mut u64) -> u32
-    ensures { ReadAnswer image.now table.old end.old result table.new end.new }
+// Reads an image into a table's slice, and tells where the bytes after the image begin. Refused, it does not touch the slice.
+#[tactic(auto, using(crate::proofs::ReplyLaws::readable))]
+pub fn read(image: &[u8], table: &mut [u8]) -> Result<usize, Refused>
+    ensures reply { result ≡ read_result image.now table.old }
+    ensures bytes { table.new ≡ read_bytes image.now table.old }
 {
-    let number = judge(image, table);
-    if number != 0 {
-        return number;
-    }
+    judge(image, table)?;
     fill(table, image);
-    *end = end_of(image);
-    0
+    Ok(end_of(image))
 }

@@ -172,14 +172,16 @@ reply-without a ne m h =
     (λ _. before (text " taken" ++ copies a.shown) (text "\n" ++ m) (copies_plain a.shown) (before (text "\n") m refl h))
     (λ _. refused-without a.number a.shown ne m h)
 
-replies-without : (k : ℕ) (rs : List Answer) → ((j : ℕ) → get_or (numbers rs) j 0 ≢ 24) → (m : List ℕ) → Without m → Without (flatten (numbered replied_line k rs) ++ m)
+replies-without : (k : ℕ) (rs : List Answer) → ((j : ℕ) → get_or (numbers rs) j 0 ≢ 24) → (m : List ℕ) → Without m
+    → Without (flatten (numbered replied_line k rs) ++ m)
 unfolding numbered flatten replied_line
 replies-without k [] ne m h = h
 replies-without k (r ∷ rs) ne m h =
     let rest = flatten (numbered replied_line (suc k) rs) ++ m in
-    rw (append_assoc (replied_line k r) (flatten (numbered replied_line (suc k) rs)) m, append_assoc (decimal k ++ reply r) (text "\n") rest, append_assoc (decimal k) (reply r) (text "\n" ++ rest))
+    rw (append_assoc (replied_line k r) (flatten (numbered replied_line (suc k) rs)) m, append_assoc (decimal k ++ reply r) (text "\n") rest)
+    (rw (append_assoc (decimal k) (reply r) (text "\n" ++ rest))
     (before (decimal k) (reply r ++ (text "\n" ++ rest)) (decimal-plain k)
-    (reply-without r (ne 0) rest (replies-without (suc k) rs (λ j. ne (suc j)) m h)))
+    (reply-without r (ne 0) rest (replies-without (suc k) rs (λ j. ne (suc j)) m h))))
 
 plain-without : (l : List ℕ) → plain l ≡ true → Without l
 unfolding Without
@@ -212,10 +214,12 @@ module _ (n m R F : ℕ) (acts : List (List ℕ)) (sound : broken (fresh n m R F
 
   replies-24 : (q : List (List ℕ)) (j : ℕ) → get_or (numbers (play left q).replies) j 0 ≢ 24
   replies-24 q j e =
-      let first = numbers (play (fresh n m R F) acts).replies in
+      let ran = play (fresh n m R F) acts in
+      let first = numbers ran.replies in
+      let next = numbers (play left q).replies in
       not-given-24 n m R F (acts ++ q) (length first + j)
       (ap (λ (r : Ran). get_or (numbers r.replies) (length first + j) 0) (play-append (fresh n m R F) acts q)
-      ∙ rw (map-append (λ (a : Answer). a.number) (play (fresh n m R F) acts).replies (play left q).replies) (get_or-append-add first (numbers (play left q).replies) j 0) ∙ e)
+      ∙ rw (map-append (λ (a : Answer). a.number) ran.replies (play left q).replies) (get_or-append-add first next j 0) ∙ e)
 
   pub never-printed : (p x y : List ℕ) → printed (image left ++ p) ≢ x ++ (text " refused 24\n" ++ y)
   never-printed p x y e =

@@ -1,17 +1,14 @@
--- All that `rehearse` prints and all that `save` writes, of the bytes of the input. The enums stand in src/lib.rt. Assumes nothing.
-use Rattle.std.specs.Prelude.{ℕ, ◌≤◌, Bool, cond, not, ◌||◌, true, false, ◌≡◌, ltb, eqb, length, drop, replicate, take}
+-- All that `rehearse` prints and all that `save` writes, of the bytes of the input. Assumes nothing.
+use Rattle.std.specs.Prelude.{ℕ, ◌+◌, ◌≤◌, Bool, cond, not, ◌||◌, true, false, ◌≡◌, ltb, eqb, length, drop, replicate, take, Result, Ok, Err}
 use mathlib.Core.List.{List, [], ◌∷◌, flatten}
 use Rattle.algorithm.specs.Run.{run}
 use Rattle.table.specs.Layout.{table_bytes, table_in}
 use Rattle.reader.specs.Reader.{read_reply, read_table, read_end}
 use Rattle.report.specs.Lines.{bad_site_line, too_long_line, played_lines}
 use Rattle.image.specs.Image.{image}
-use Rattle.buffer.specs.Buffer.{Wrote}
-use Rattle.rehearsal.specs.declared.Saved.{Saved}
-use Rattle.rehearsal.specs.declared.Saved.TheVariants.{Image, Told}
+use Rattle.buffer.specs.Buffer.{field_room, Wrote, Grew}
+use Rattle.buffer.specs.declared.Output.{Output}
 use Rattle.engine.specs.Engine.{Ready}
-use Rattle.rehearsal.specs.declared.Opened.{Opened}
-use Rattle.rehearsal.specs.declared.Opened.TheVariants.{Fault, Site}
 
 -- the longest input that is played
 abbrev pub longest : ℕ
@@ -59,37 +56,38 @@ abbrev pub bytes_of : Written → List ℕ
 bytes_of (to_output l) = l
 bytes_of (to_error l) = l
 
--- the case of the answer and how many bytes it tells
-abbrev pub answer_of : Written → Saved
-answer_of (to_output l) = Image (length l)
-answer_of (to_error l) = Told (length l)
+-- the answer: how many bytes that is, of an image or else of words
+abbrev pub answer_of : Written → Result ℕ ℕ
+answer_of (to_output l) = Ok (length l)
+answer_of (to_error l) = Err (length l)
 
 -- the answer to an input and a buffer b: r, with the bytes at the start of the buffer, which is b' then
-pub record SaveAnswer (input b : List ℕ) (r : Saved) (b' : List ℕ) : Type 0 where
+pub record SaveAnswer (input b : List ℕ) (r : Result ℕ ℕ) (b' : List ℕ) : Type 0 where
   pub answer : r ≡ answer_of (saved input)
   pub wrote : Wrote b b' 0 (bytes_of (saved input)) (length (bytes_of (saved input)))
 
 -- what an answer has the program write of a buffer
-abbrev pub sent : Saved → List ℕ → Written
-sent (Image n) b = to_output (take n b)
-sent (Told n) b = to_error (take n b)
+abbrev pub sent : Result ℕ ℕ → List ℕ → Written
+sent (Ok n) b = to_output (take n b)
+sent (Err n) b = to_error (take n b)
 
--- the input is not played, and the line that tells why is put at the start of the buffer
-pub record Refused (input b b' : List ℕ) (n : ℕ) : Type 0 where
+-- the input is not played: the line that tells why is put out, and ends at a place
+pub record Refused (input : List ℕ) (o p : Output) (end : ℕ) : Type 0 where
   pub fault : faulty input ≡ true
-  pub told : Wrote b b' 0 (fault_line input) n
+  pub told : Grew (8 + field_room + 1) o p (fault_line input)
+  pub place : end ≡ p.at
 
--- the input is played: t holds its table, its actions begin at a place, and the buffer is as it was
-pub record Playable (input b b' t : List ℕ) (at : ℕ) : Type 0 where
+-- the input is played: t holds its table, its actions begin at a place, and nothing is put out
+pub record Playable (input : List ℕ) (o p : Output) (t : List ℕ) (at : ℕ) : Type 0 where
   pub faultless : faulty input ≡ false
   pub short : length input ≤ longest
   pub within : at ≤ length input
   pub place : at ≡ read_end input
   pub ready : Ready t
   pub table : table_in t ≡ read_table input
-  pub same : b' ≡ b
+  pub same : p ≡ o
 
 -- the one or the other, by the answer
-abbrev pub OpenAnswer : List ℕ → List ℕ → List ℕ → List ℕ → Opened → Type 0
-OpenAnswer input b b' t (Fault n) = Refused input b b' n
-OpenAnswer input b b' t (Site at) = Playable input b b' t at
+abbrev pub OpenAnswer : List ℕ → Output → Output → List ℕ → Result ℕ ℕ → Type 0
+OpenAnswer input o p t (Ok at) = Playable input o p t at
+OpenAnswer input o p t (Err end) = Refused input o p end

@@ -1,5 +1,5 @@
 -- Laws of lines put one behind another. Assumes nothing.
-use Prim.Native.Nat.{ℕ, zero, suc, ◌+◌, ◌*◌, ◌≤◌, ◌<◌}
+use Prim.Native.Nat.{ℕ, zero, suc, ◌+◌, ◌-◌, ◌*◌, ◌≤◌, ◌<◌}
 use native.Mathlib.Nat.{mul-suc}
 use native.Mathlib.Numerals.{add-one}
 use native.Mathlib.Omega.{arith}
@@ -8,12 +8,12 @@ use mathlib.Core.List.{List, [], ◌∷◌, ◌++◌, append_assoc, append-nil, 
 use lib.ListN.{length, get_or, take}
 use lib.Seq.{take_all}
 use Rattle.words.specs.Lists.{nth}
-use Rattle.algorithm.specs.Table.{absent, count, server, most_servers, positions}
-use Rattle.table.specs.Layout.{table_in}
-use Rattle.table.specs.Slice.{Held, seen}
+use Rattle.algorithm.specs.Table.{Server, absent, Table, most_servers, positions}
+use Rattle.table.specs.Slice.{seen}
 use Rattle.table.specs.declared.rows.Row.{Row}
-use Rattle.buffer.specs.Buffer.{WroteShort, field_room}
-use Rattle.buffer.proofs.WroteLaws.{wrote_none, sized, then-short}
+use Rattle.buffer.specs.Buffer.{field_room, Grew}
+use Rattle.buffer.specs.declared.Output.{Output}
+use Rattle.buffer.proofs.WroteLaws.{grown, grown_none, at_most}
 use Rattle.report.specs.Lines.{shown_row, row_line, marks_line, numbered, row_lines, table_lines, row_room, table_room}
 
 pub flatten-append : (l m : List (List ℕ)) → flatten (l ++ m) ≡ flatten l ++ flatten m
@@ -21,31 +21,29 @@ unfolding flatten
 flatten-append [] m = refl
 flatten-append (x ∷ l) m = ap (λ (r : List ℕ). x ++ r) (flatten-append l m) ∙ sym (append_assoc x (flatten l) (flatten m))
 
--- ---- lines in a buffer
+-- ---- lines in an output
 
-pub no_lines : (n : ℕ) (b : List ℕ) (at : ℕ) → at ≤ length b → WroteShort n b b at (flatten []) at
+pub no_lines : (n : ℕ) (o : Output) → o.at ≤ length o.buffer.now → Grew n o o (flatten [])
 unfolding flatten
-no_lines n b at h = record { wrote = wrote_none b at h; short = omega arith }
+no_lines n o h = grown_none n o h
 
-pub one_line : {n at e : ℕ} {b b₁ l : List ℕ} → WroteShort n b b₁ at l e → WroteShort n b b₁ at (flatten (l ∷ [])) e
+pub one_line : {n : ℕ} {o p : Output} {l : List ℕ} → Grew n o p l → Grew n o p (flatten (l ∷ []))
 unfolding flatten
 one_line {l = l} w = rw (append-nil l) w
 
-pub more-lines : {n m at d e : ℕ} {b b₁ b₂ : List ℕ} (l k : List (List ℕ)) → WroteShort n b b₁ at (flatten l) d
-    → WroteShort m b₁ b₂ d (flatten k) e → WroteShort (n + m) b b₂ at (flatten (l ++ k)) e
-more-lines l k v w = rw (flatten-append l k) (then-short v w)
+pub more-lines : {n m : ℕ} {o p q : Output} (l k : List (List ℕ)) → Grew n o p (flatten l) → Grew m p q (flatten k) → Grew (n + m) o q (flatten (l ++ k))
+more-lines l k v w = rw (flatten-append l k) (grown v w)
 
 -- ---- a line for each thing in a list
 
--- the first k lines are put from a place on, each of which has n bytes at most
-pub record Lined {A : Type 0} (n : ℕ) (line : ℕ → A → List ℕ) (l : List A) (b : List ℕ) (at : ℕ) (b' : List ℕ) (k e : ℕ) : Type 0 where
-  pub long : length b' ≡ length b
-  pub wrote : WroteShort (n * k) b b' at (flatten (numbered line 1 (take k l))) e
+-- the first k lines are put, each of which has n bytes at most
+abbrev pub Lined : {A : Type 0} → ℕ → (ℕ → A → List ℕ) → List A → Output → Output → ℕ → Type 0
+Lined n line l o p k = Grew (n * k) o p (flatten (numbered line 1 (take k l)))
 
-module _ {A : Type 0} (n : ℕ) (line : ℕ → A → List ℕ) (l : List A) (b : List ℕ) (at : ℕ) where
-  pub lined-none : at ≤ length b → Lined n line l b at b 0 at
+module _ {A : Type 0} (n : ℕ) (line : ℕ → A → List ℕ) (l : List A) (o : Output) where
+  pub lined-none : o.at ≤ length o.buffer.now → Lined n line l o o 0
   unfolding numbered
-  lined-none h = record { long = refl; wrote = no_lines (n * 0) b at h }
+  lined-none h = no_lines (n * 0) o h
 
   numbered_next : (d : A) (k i : ℕ) (l : List A) → i < length l
       → numbered line k (take (suc i) l) ≡ numbered line k (take i l) ++ (line (k + i) (get_or l i d) ∷ [])
@@ -56,34 +54,33 @@ module _ {A : Type 0} (n : ℕ) (line : ℕ → A → List ℕ) (l : List A) (b 
       let same : k + suc i ≡ suc k + i = omega arith in
       rw same (ap (λ (m : List (List ℕ)). line k x ∷ m) (numbered_next d (suc k) i l (omega arith)))
 
-  pub lined-more : (d : A) (b₁ b₂ : List ℕ) (k m c e : ℕ) → Lined n line l b at b₁ k c → k < m → m ≤ length l
-      → WroteShort n b₁ b₂ c (line (k + 1) (get_or l k d)) e → Lined n line l b at b₂ (k + 1) e
-  lined-more d b₁ b₂ k m c e v f g w =
+  pub lined-more : (d : A) (p q : Output) (k m : ℕ) → Lined n line l o p k → k < m → m ≤ length l → Grew n p q (line (k + 1) (get_or l k d))
+      → Lined n line l o q (k + 1)
+  lined-more d p q k m v f g w =
       let here : k + 1 ≡ 1 + k = omega arith in
-      let next = more-lines (numbered line 1 (take k l)) (line (1 + k) (get_or l k d) ∷ []) v.wrote (one_line (rw here at w)) in
-      record { long = sized w.wrote ∙ v.long; wrote = rw (add-one, mul-suc, numbered_next d 1 k l (omega arith)) next }
-
-  pub lined-all : (b₁ : List ℕ) (k m e : ℕ) → k ≤ m → m ≤ k → Lined n line l b at b₁ k e
-      → WroteShort (n * m) b b₁ at (flatten (numbered line 1 (take m l))) e
-  lined-all b₁ k m e f g v = let same : k ≡ m = omega arith in rw same at v.wrote
+      let next = more-lines (numbered line 1 (take k l)) (line (1 + k) (get_or l k d) ∷ []) v (one_line (rw here at w)) in
+      rw (add-one, mul-suc, numbered_next d 1 k l (omega arith)) next
 
 -- ---- servers
 
-module _ (b b₁ t : List ℕ) (at d s n : ℕ) (c : n ≡ count (table_in t)) (v : Lined row_room row_line (table_in t).servers b at b₁ s d) where
-  pub rows_more : (b₂ : List ℕ) (e : ℕ) (a : Row) → s < n → a ≡ seen (server (table_in t) (s + 1)) → WroteShort row_room b₁ b₂ d (shown_row (s + 1) a) e
-      → Lined row_room row_line (table_in t).servers b at b₂ (s + 1) e
+module _ (ss : List Server) (o p : Output) where
+  pub rows_more : (q : Output) (s n : ℕ) (a : Row) → Lined row_room row_line ss o p (s - 1) → Grew row_room p q (shown_row s a)
+      → a ≡ seen (nth ss s absent) → 1 ≤ s → s ≤ n → n ≡ length ss → Lined row_room row_line ss o q ((s + 1) - 1)
   unfolding nth
-  rows_more b₂ e a l f w =
-      let mine : a ≡ seen (server (table_in t) (suc s)) = rw add-one at f in
-      lined-more row_room row_line (table_in t).servers b at absent b₁ b₂ s n d e v l (omega arith) (rw mine at w)
+  rows_more q zero n a v w is h l m = absurd (omega arith)
+  rows_more q (suc s) n a v w is h l m =
+      let here : suc s - 1 ≡ s = omega arith in
+      let next : suc s + 1 - 1 ≡ s + 1 = omega arith in
+      let number : s + 1 ≡ suc s = add-one s in
+      rw next (lined-more row_room row_line ss o absent p q s (length ss) (rw here at v) (omega arith) (omega arith) (rw number (rw is at w)))
 
-  pub rows_all : Held t → s ≤ n → n ≤ s → WroteShort (row_room * most_servers) b b₁ at (flatten (row_lines (table_in t).servers)) d
-  rows_all h l m =
-      let all : take s (table_in t).servers ≡ (table_in t).servers = take_all s (table_in t).servers (omega arith) in
-      record { wrote = rw all at v.wrote.wrote; short = omega (arith, v.wrote.short, h.shaped.few) }
+  pub rows_all : (s n : ℕ) → Lined row_room row_line ss o p (s - 1) → n < s → s ≤ n + 1 → n ≡ length ss → n ≤ most_servers
+      → Grew (row_room * most_servers) o p (flatten (row_lines ss))
+  rows_all s n v l m is few =
+      let all : take (s - 1) ss ≡ ss = take_all (s - 1) ss (omega arith) in
+      at_most (row_room * most_servers) (omega arith) (rw all at v)
 
-pub table-shown : (b b₁ b₂ t : List ℕ) (at d e : ℕ) → WroteShort (row_room * most_servers) b b₁ at (flatten (row_lines (table_in t).servers)) d
-    → WroteShort (5 + field_room * positions + 1) b₁ b₂ d (marks_line (table_in t).marks) e → WroteShort table_room b b₂ at (flatten (table_lines (table_in t))) e
+pub table-shown : (t : Table) (o p q : Output) → Grew (row_room * most_servers) o p (flatten (row_lines t.servers))
+    → Grew (5 + field_room * positions + 1) p q (marks_line t.marks) → Grew table_room o q (flatten (table_lines t))
 unfolding table_lines
-table-shown b b₁ b₂ t at d e v w =
-    more-lines (row_lines (table_in t).servers) (marks_line (table_in t).marks ∷ []) v (one_line w)
+table-shown t o p q v w = more-lines (row_lines t.servers) (marks_line t.marks ∷ []) v (one_line w)

@@ -1,124 +1,111 @@
 // The parts that single lines have: a reply, the head and the figures of a row, the marks.
-ghost use Rattle.std.specs.Prelude.{◌≡◌, [], ◌∷◌, ◌++◌, ◌+◌, ◌*◌, ◌≤◌, length, take};
+ghost use Rattle.std.specs.Prelude.{◌++◌, ◌+◌, ◌*◌, ◌≤◌, take};
 ghost use Rattle.algorithm.specs.Table.{positions};
 ghost use Rattle.algorithm.specs.Run.{answer_in};
-ghost use Rattle.table.specs.Layout.{table_in};
-ghost use Rattle.table.specs.Slice.{Held};
-ghost use Rattle.buffer.specs.Buffer.{text, field, field_room, fields, WroteShort};
+ghost use Rattle.buffer.specs.Buffer.{text, field, field_room, fields, Room, Grew};
 ghost use Rattle.report.specs.Lines.{pair, beside, reply, reply_room, letter, figures, copies};
 
 use algorithm::{PRIMARY, Position};
-use buffer::{put_field, put_word};
-use table::rows::{Row, mark_of};
-use words::{half, wide};
+use buffer::Output;
+use table::Table;
+use table::rows::Row;
+use words::half;
 
 // The two majorities that the eight bytes of a reply show, if they do.
-fn put_pair(buffer: &mut [u8], at: usize, r: &[u8]) -> usize
-    requires r_len { length r.now ≡ 8 }
-    requires field_room_in_bounds { at + 2 * field_room ≤ length buffer.old }
-    ensures { WroteShort (2 * field_room) buffer.old buffer.new at (pair (answer_in r.now).shown) result }
+fn put_pair(out: &mut Output<'_>, r: &[u8; 8])
+    requires { Room (2 * field_room) out.old }
+    ensures { Grew (2 * field_room) out.old out.new (pair (answer_in r.now).shown) }
 {
     let old = half(r, 4);
     if old == 0 {
-        return at;
+        return;
     }
-    let end = put_field(buffer, at, old as u32);
-    put_field(buffer, end, half(r, 6) as u32)
+    out.put_field(old as u32);
+    out.put_field(half(r, 6) as u32);
 }
 
 // The server that stands in the way, if the eight bytes of a reply show one; else two majorities, if they do.
-fn put_beside(buffer: &mut [u8], at: usize, r: &[u8]) -> usize
-    requires r_len { length r.now ≡ 8 }
-    requires field_room_in_bounds { at + 2 * field_room ≤ length buffer.old }
-    ensures { WroteShort (2 * field_room) buffer.old buffer.new at (beside (answer_in r.now).shown) result }
+fn put_beside(out: &mut Output<'_>, r: &[u8; 8])
+    requires { Room (2 * field_room) out.old }
+    ensures { Grew (2 * field_room) out.old out.new (beside (answer_in r.now).shown) }
 {
-    let server = wide(r[1]);
+    let server = u32::from(r[1]);
     if server == 0 {
-        return put_pair(buffer, at, r);
+        put_pair(out, r);
+        return;
     }
-    let end = put_word(buffer, at, b" at");
-    put_field(buffer, end, server)
+    out.put_word(b" at");
+    out.put_field(server);
 }
 
 // How many entries the eight bytes of a reply say were copied, if some were.
-fn put_copies(buffer: &mut [u8], at: usize, r: &[u8]) -> usize
-    requires r_len { length r.now ≡ 8 }
-    requires field_room_in_bounds { at + field_room ≤ length buffer.old }
-    ensures { WroteShort field_room buffer.old buffer.new at (copies (answer_in r.now).shown) result }
+fn put_copies(out: &mut Output<'_>, r: &[u8; 8])
+    requires { Room field_room out.old }
+    ensures { Grew field_room out.old out.new (copies (answer_in r.now).shown) }
 {
-    let copied = wide(r[2]);
+    let copied = u32::from(r[2]);
     if copied == 0 {
-        return at;
+        return;
     }
-    put_field(buffer, at, copied)
+    out.put_field(copied);
 }
 
 // A reply by its eight bytes.
-pub(crate) fn put_reply(buffer: &mut [u8], at: usize, r: &[u8]) -> usize
-    requires r_len { length r.now ≡ 8 }
-    requires reply_room_in_bounds { at + reply_room ≤ length buffer.old }
-    ensures { WroteShort reply_room buffer.old buffer.new at (reply (answer_in r.now)) result }
+pub(crate) fn put_reply(out: &mut Output<'_>, r: &[u8; 8])
+    requires { Room reply_room out.old }
+    ensures { Grew reply_room out.old out.new (reply (answer_in r.now)) }
 {
-    let number = wide(r[0]);
+    let number = u32::from(r[0]);
     if number == 0 {
-        let end = put_word(buffer, at, b" taken");
-        return put_copies(buffer, end, r);
+        out.put_word(b" taken");
+        put_copies(out, r);
+        return;
     }
-    let end = put_word(buffer, at, b" refused");
-    let end = put_field(buffer, end, number);
-    put_beside(buffer, end, r)
+    out.put_word(b" refused");
+    out.put_field(number);
+    put_beside(out, r);
 }
 
-fn put_role(buffer: &mut [u8], at: usize, role: u32) -> usize
-    requires { at + 2 ≤ length buffer.old }
-    ensures { WroteShort 2 buffer.old buffer.new at (letter role) result }
+fn put_role(out: &mut Output<'_>, role: u32)
+    requires { Room 2 out.old }
+    ensures { Grew 2 out.old out.new (letter role) }
 {
     if role == PRIMARY {
-        return put_word(buffer, at, b" P");
+        out.put_word(b" P");
+        return;
     }
-    put_word(buffer, at, b" S")
+    out.put_word(b" S");
 }
 
-pub(crate) fn put_head(buffer: &mut [u8], at: usize, s: u8, role: u32) -> usize
-    requires { at + (5 + field_room) ≤ length buffer.old }
-    ensures { WroteShort (5 + field_room) buffer.old buffer.new at (text "row" ++ field s ++ letter role) result }
+pub(crate) fn put_head(out: &mut Output<'_>, s: u8, role: u32)
+    requires { Room (5 + field_room) out.old }
+    ensures { Grew (5 + field_room) out.old out.new (text "row" ++ field s ++ letter role) }
 {
-    let end = put_word(buffer, at, b"row");
-    let end = put_field(buffer, end, s as u32);
-    put_role(buffer, end, role)
+    out.put_word(b"row");
+    out.put_field(s as u32);
+    put_role(out, role);
 }
 
-// Three numbers: six calls in a row are more than the prover's search goes through.
-fn put_three(buffer: &mut [u8], at: usize, x: u32, y: u32, z: u32) -> usize
-    requires { at + 3 * field_room ≤ length buffer.old }
-    ensures { WroteShort (3 * field_room) buffer.old buffer.new at (fields (x ∷ y ∷ z ∷ [])) result }
-{
-    let end = put_field(buffer, at, x);
-    let end = put_field(buffer, end, y);
-    put_field(buffer, end, z)
-}
-
-pub(crate) fn put_figures(buffer: &mut [u8], at: usize, a: Row) -> usize
-    requires { at + (6 * field_room) ≤ length buffer.old }
-    ensures { WroteShort (6 * field_room) buffer.old buffer.new at (fields (figures a)) result }
+pub(crate) fn put_figures(out: &mut Output<'_>, a: Row)
+    requires { Room (6 * field_room) out.old }
+    ensures { Grew (6 * field_room) out.old out.new (fields (figures a)) }
 {
     let f = a.figures;
-    let end = put_three(buffer, at, f.term.0, f.set, f.version.0);
-    put_three(buffer, end, f.config.0, a.length.0 as u32, a.last.0)
+    out.put_field(f.term.0);
+    out.put_field(f.set);
+    out.put_field(f.version.0);
+    out.put_field(f.config.0);
+    out.put_field(a.length.0 as u32);
+    out.put_field(a.last.0);
 }
 
 // The first n marks.
-pub(crate) fn put_marks(buffer: &mut [u8], at: usize, t: &[u8], n: u8) -> usize
-    requires held { Held t.now }
+pub(crate) fn put_marks(out: &mut Output<'_>, t: &Table<'_>, n: u8)
     requires n_le_positions { n ≤ positions }
-    requires positions_in_bounds { at + (field_room * positions) ≤ length buffer.old }
-    ensures { WroteShort (field_room * positions) buffer.old buffer.new at (fields (take n (table_in t.now).marks)) result }
+    requires room { Room (field_room * positions) out.old }
+    ensures { Grew (field_room * positions) out.old out.new (fields (take n t.now.marks)) }
 {
-    let mut end = at;
-    let mut k: u8 = 0;
-    while k < n {
-        k += 1;
-        end = put_field(buffer, end, mark_of(t, Position(k)).0);
+    for k in 1..=n {
+        out.put_field(t.mark(Position(k)).0);
     }
-    end
 }

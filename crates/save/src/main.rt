@@ -4,7 +4,7 @@
 #![tactic(auto)]
 
 use rehearsal::input::read_full;
-use rehearsal::{IMAGE, MOST, Saved, save};
+use rehearsal::{IMAGE, MOST, save};
 use std::io;
 use std::io::Write;
 
@@ -14,7 +14,7 @@ fn main(rt: HostRuntime) -> io::Result<()> {
     let mut buffer = [0u8; IMAGE];
     let n = read_full(&mut rt.stdin(), &mut input)?;
     match save(&input[..n], &mut buffer) {
-        Saved::Image(end) => rt.stdout().write_all(&buffer[..end]),
-        Saved::Told(end) => rt.stderr().write_all(&buffer[..end]),
+        Ok(end) => rt.stdout().write_all(&buffer[..end]),
+        Err(end) => rt.stderr().write_all(&buffer[..end]),
     }
 }

@@ -3,24 +3,25 @@ use Prim.Native.Nat.{ℕ, zero, suc, ◌≤◌, ◌<◌}
 use native.Mathlib.Omega.{arith}
 use mathlib.Core.Logic.{◌≢◌}
 use mathlib.Core.Path.{◌≡◌, refl, sym, ap, subst, ◌∙◌}
-use mathlib.Core.Bool.{Bool, true, false, not, ◌||◌, ◌&&◌}
+use mathlib.Core.Bool.{Bool, true, false, not, ◌||◌}
 use mathlib.Core.List.{[], ◌∷◌}
 use lib.Dec.{T, eqb, ltb}
 use lib.Bits.{bit_xor}
 use lib.ListN.{length}
 use Rattle.members.specs.Members.{member, within, majority, passing, some_pass, lowest_up_to, lowest_in}
-use borrow.Author.Tests.{ne_eqb, ltb-true}
+use borrow.Author.Tests.{ne_eqb}
 use Rattle.words.specs.Refusal.{answer}
 use Rattle.words.proofs.Tests.{false-fails}
-use Rattle.members.specs.Rules.{all_meet, may_follow, below_floor, old_apart, new_apart, lowest_pair}
+use Rattle.members.specs.Rules.{all_meet, may_follow, old_apart, new_apart, lowest_pair}
 use Rattle.members.specs.declared.apart.Pair.{Pair}
 use Rattle.members.proofs.Masks.{without-passing}
 use Rattle.members.proofs.Majorities.{other-rule}
-use Rattle.members.proofs.Lowest.{lowest-passing, lowest-some}
+use Rattle.members.proofs.Lowest.{lowest-passing}
 use Rattle.members.proofs.Pairs.{some-apart, majority-range}
-use Rattle.algorithm.specs.declared.Reply.TheVariants.{Refused, RefusedAt, Apart}
-use Rattle.algorithm.specs.Run.{reply_of}
-use Rattle.algorithm.specs.Table.{Log, Table, count, server, mark, last, most_servers}
+use Rattle.std.specs.Prelude.{Err}
+use Rattle.algorithm.specs.declared.Refused.TheVariants.{LargerTerm, NewerConfig, LogAhead, MayNotFollow, Apart, Opposed}
+use Rattle.algorithm.specs.Run.{refused_of, verdict_of}
+use Rattle.algorithm.specs.Table.{Log, Table, count, server, last, most_servers}
 use Rattle.algorithm.specs.Actions.{one_server, apart_shown, larger_term, newer_config, log_ahead, same_term, some_marked, holds_committed, q1, q2, p1, supports_at, opposes_at}
 use Rattle.questions.specs.declared.votes.Objections.{Objections}
 use Rattle.questions.specs.declared.shares.Shares.{Shares}
@@ -30,16 +31,9 @@ use Rattle.algorithm.proofs.Replies.{replying}
 
 -- x are the members of q that have a fault
 module _ (n : ℕ) (fault : ℕ → Bool) (q x : ℕ) (e : x ≡ passing n fault q) where
-  some-told : ltb 0 x ≡ some_pass n fault q
-  some-told = ap (ltb 0) e
-
-  -- the refusal k of the fault, with the lowest of them as the code has found it
-  fault-told : (k r : ℕ) → 0 < k → n ≤ 16 → ltb 0 x ≡ true → r ≡ lowest_up_to 16 (λ s. member s x)
-      → RefusedAt k r ≡ reply_of (answer k (one_server (lowest_in n fault q)))
-  fault-told k r positive few o f =
-      let is : r ≡ lowest_in n fault q = f ∙ ap (λ (m : ℕ). lowest_up_to 16 (λ s. member s m)) e ∙ lowest-passing n q fault 16 few in
-      let some : 0 < lowest_in n fault q = ltb-true 0 (lowest_in n fault q) (lowest-some n q fault ∙ sym some-told ∙ o) in
-      rw (is, ne_eqb k 0 (omega arith), ne_eqb (lowest_in n fault q) 0 (omega arith))
+  -- r is the lowest of them as the code has found it
+  fault-told : (r : ℕ) → n ≤ 16 → r ≡ lowest_up_to 16 (λ s. member s x) → r ≡ lowest_in n fault q
+  fault-told r few f = f ∙ ap (λ (m : ℕ). lowest_up_to 16 (λ s. member s m)) e ∙ lowest-passing n q fault 16 few
 
 -- some member of q objects to an election
 module _ (t : Table) (i q : ℕ) (o : Objections) (e : o ≡ objecting t i q (count t)) where
@@ -54,17 +48,14 @@ module _ (t : Table) (i q : ℕ) (o : Objections) (e : o ≡ objecting t i q (co
 
   -- r is the lowest that does
   module _ (few : count t ≤ most_servers) (r : ℕ) where
-    pub larger-at : ltb 0 o.larger ≡ true → r ≡ lowest_up_to 16 (λ s. member s o.larger)
-        → RefusedAt 8 r ≡ reply_of (answer 8 (one_server (lowest_in (count t) (larger_term t i) q)))
-    larger-at = fault-told (count t) (larger_term t i) q o.larger (ap (λ (u : Objections). u.larger) e) 8 r (omega arith) few
+    pub larger-at : r ≡ lowest_up_to 16 (λ s. member s o.larger) → Err (LargerTerm r) ≡ verdict_of (answer 8 (one_server (lowest_in (count t) (larger_term t i) q)))
+    larger-at f = ap (λ (s : ℕ). Err (LargerTerm s)) (fault-told (count t) (larger_term t i) q o.larger (ap (λ (u : Objections). u.larger) e) r few f)
 
-    pub newer-at : ltb 0 o.newer ≡ true → r ≡ lowest_up_to 16 (λ s. member s o.newer)
-        → RefusedAt 9 r ≡ reply_of (answer 9 (one_server (lowest_in (count t) (newer_config t i) q)))
-    newer-at = fault-told (count t) (newer_config t i) q o.newer (ap (λ (u : Objections). u.newer) e) 9 r (omega arith) few
+    pub newer-at : r ≡ lowest_up_to 16 (λ s. member s o.newer) → Err (NewerConfig r) ≡ verdict_of (answer 9 (one_server (lowest_in (count t) (newer_config t i) q)))
+    newer-at f = ap (λ (s : ℕ). Err (NewerConfig s)) (fault-told (count t) (newer_config t i) q o.newer (ap (λ (u : Objections). u.newer) e) r few f)
 
-    pub ahead-at : ltb 0 o.ahead ≡ true → r ≡ lowest_up_to 16 (λ s. member s o.ahead)
-        → RefusedAt 10 r ≡ reply_of (answer 10 (one_server (lowest_in (count t) (log_ahead t i) q)))
-    ahead-at = fault-told (count t) (log_ahead t i) q o.ahead (ap (λ (u : Objections). u.ahead) e) 10 r (omega arith) few
+    pub ahead-at : r ≡ lowest_up_to 16 (λ s. member s o.ahead) → Err (LogAhead r) ≡ verdict_of (answer 10 (one_server (lowest_in (count t) (log_ahead t i) q)))
+    ahead-at f = ap (λ (s : ℕ). Err (LogAhead s)) (fault-told (count t) (log_ahead t i) q o.ahead (ap (λ (u : Objections). u.ahead) e) r few f)
 
 -- those of the set m that are alike, where the code has read m
 module _ (t : Table) (i m : ℕ) (o : Shares) (e : o ≡ alike t i m (count t)) (f : m ≡ (server t i).config.set) where
@@ -95,26 +86,18 @@ module _ (t : Table) (i q p x : ℕ) (e : x ≡ passing (count t) (supports_at t
   pub opposed-told : ltb 0 (bit_xor q x) ≡ some_pass (count t) (opposes_at t i (length (server t i).log)) q
   opposed-told = ap (ltb 0) opposing
 
-  pub opposed-at : count t ≤ most_servers → (r : ℕ) → ltb 0 (bit_xor q x) ≡ true → r ≡ lowest_up_to 16 (λ s. member s (bit_xor q x))
-      → RefusedAt 23 r ≡ reply_of (answer 23 (one_server (lowest_in (count t) (opposes_at t i (length (server t i).log)) q)))
-  opposed-at few r = fault-told (count t) (opposes_at t i (length (server t i).log)) q (bit_xor q x) opposing 23 r (omega arith) few
+  pub opposed-at : count t ≤ most_servers → (r : ℕ) → r ≡ lowest_up_to 16 (λ s. member s (bit_xor q x))
+      → Err (Opposed r) ≡ verdict_of (answer 23 (one_server (lowest_in (count t) (opposes_at t i (length (server t i).log)) q)))
+  opposed-at few r f = ap (λ (s : ℕ). Err (Opposed s)) (fault-told (count t) (opposes_at t i (length (server t i).log)) q (bit_xor q x) opposing r few f)
 
 -- where refusal 22 does not hold, the log has an entry
 pub has-entry : (l : Log) (v p : ℕ) → (eqb (length l) 0 || not (eqb (last l) v)) ≡ false → p ≡ length l → 1 ≤ p
 has-entry [] v p o e = let z : ◌≡◌ {A = ℕ} 0 1 = cc in omega arith
 has-entry (x ∷ l) v p o e = omega arith
 
--- a test of what the code has read
-module _ (x a : ℕ) (e : x ≡ a) (m : ℕ) (r : Bool) where
-  pub majority-told : r ≡ majority m x → r ≡ majority m a
-  majority-told f = rw e at f
-
-  pub below-told : r ≡ below_floor x m → r ≡ below_floor a m
-  below-told f = rw e at f
-
--- under rule 2 refusal 13 is a reply of its own: a majority is not empty
+-- under rule 2 refusal 13 shows the majorities: one is not empty
 pair-shown : (R s m : ℕ) → R ≢ 0 → 0 < s → 0 < m → all_meet s m ≡ false
-    → Apart (old_apart s m) (new_apart s m) ≡ reply_of (answer 13 (apart_shown R s m))
+    → Apart (old_apart s m) (new_apart s m) ≡ refused_of (answer 13 (apart_shown R s m))
 pair-shown zero s m o a b f = absurd (o refl)
 pair-shown (suc k) s m o a b f =
     let (some, _) = majority-range (old_apart s m) (some-apart s m a b (false-fails f)).pair.old in
@@ -127,14 +110,11 @@ denied false b e o = sym e
 
 -- refusal 13, where the code has read the rule u
 module _ (R s m u : ℕ) (f : u ≡ R) where
-  pub alone-told : u ≡ 0 → Refused 13 ≡ reply_of (answer 13 (apart_shown R s m))
+  pub alone-told : u ≡ 0 → MayNotFollow ≡ refused_of (answer 13 (apart_shown R s m))
   alone-told z = rw (sym f ∙ z)
 
   -- and the set x
   module _ (x : ℕ) (e : x ≡ s) where
-    pub follow-told : (r : Bool) → r ≡ may_follow u x m → r ≡ may_follow R s m
-    follow-told r g = rw (f, e) at g
-
     module _ (h : (0 < s) × (0 < m)) (no : may_follow R s m ≡ false) (o : u ≢ 0) where
       not-met : all_meet s m ≡ false
       not-met = sym (other-rule R s m (rw f at o)) ∙ no
@@ -142,18 +122,8 @@ module _ (R s m u : ℕ) (f : u ≡ R) where
       pub read-not-met : all_meet x m ≡ false
       read-not-met = rw e not-met
 
-      pub pair-told : (p : Pair) → p ≡ lowest_pair x m → Apart p.old p.new ≡ reply_of (answer 13 (apart_shown R s m))
+      pub pair-told : (p : Pair) → p ≡ lowest_pair x m → Apart p.old p.new ≡ refused_of (answer 13 (apart_shown R s m))
       pair-told p q = rw (q, e) (pair-shown R s m (rw f at o) h.0 h.1 not-met)
-
-pub last-told : (x a k : ℕ) → x ≡ a → eqb x k ≡ eqb a k
-last-told x a k e = rw e
-
-pub lacks-told : (x a : ℕ) (r b : Bool) → x ≡ a → r ≡ b → (eqb x 0 || not r) ≡ (eqb a 0 || not b)
-lacks-told x a r b e f = rw (e, f)
-
-pub otherwise-told : (t : Table) (x y p q c : ℕ) (r : Bool) → r ≡ eqb x y → x ≡ mark t p → p ≡ q → y ≡ c
-    → (not (eqb x 0) && not r) ≡ (not (eqb (mark t q) 0) && not (eqb (mark t q) c))
-otherwise-told t x y p q c r o e f g = rw (o, e, f, g)
 
 -- what finds the first refusal from tests on sets, with the server that it shows
 pub ruleset weighing = (replying, larger-told, newer-told, ahead-told, larger-at, newer-at, ahead-at, config-told, term_told, opposed-told, opposed-at)

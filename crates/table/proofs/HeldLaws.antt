@@ -81,7 +81,7 @@ module _ {A : Type 0} {at : ℕ} {part whole : A → List ℕ} (f : Framed at pa
 
 -- ---- the row of a server
 
-module _ {b : List ℕ} {i : ℕ} (h : Held b) (w : Within b i) where
+module _ {b : List ℕ} {i : ℕ} (h : Held b) (w : Within (table_in b) i) where
   pub frame : Framed (row_words * i) row (λ s. layout (with_server (table_in b) i s))
   frame = server-in (table_in b) i w.some w.known h.shaped.few
 
@@ -114,7 +114,7 @@ module _ {b : List ℕ} {i : ℕ} (h : Held b) (w : Within b i) where
   field-read f r l e = e ∙ read frame f open_row l
 
 -- one change after another at the same server
-pub again : {b b₁ b₂ : List ℕ} {i : ℕ} (f g : Server → Server) → Within b i → Became b b₁ (changed (table_in b) i f)
+pub again : {b b₁ b₂ : List ℕ} {i : ℕ} (f g : Server → Server) → Within (table_in b) i → Became b b₁ (changed (table_in b) i f)
     → Became b₁ b₂ (changed (table_in b₁) i g) → Became b b₂ (changed (table_in b) i (λ s. g (f s)))
 again {b} {b₁} {b₂} {i} f g w p q =
     let t = table_in b in
@@ -127,5 +127,5 @@ again {b} {b₁} {b₂} {i} f g w p q =
 
 -- ---- a server that is known
 
-pub known-within : {b : List ℕ} {i : ℕ} → Passes (known (count (table_in b)) i) → Within b i
-known-within h = let (some, known) = known-range h in record { some = some; known = known }
+pub known-within : (t : Table) (i : ℕ) → Passes (known (count t) i) → Within t i
+known-within t i h = let (some, known) = known-range h in record { some = some; known = known }

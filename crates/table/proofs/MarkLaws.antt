@@ -7,9 +7,7 @@ use mathlib.Core.List.{List, [], ◌∷◌}
 use lib.ListN.{length, take, drop}
 use lib.Seq.{drop-cons, drop-length}
 use Rattle.words.specs.Lists.{nth}
-use Rattle.algorithm.specs.Table.{mark, kept, trimmed, positions}
-use Rattle.table.specs.Layout.{table_in}
-use Rattle.table.specs.Slice.{Held}
+use Rattle.algorithm.specs.Table.{Table, mark, kept, trimmed, positions}
 
 -- ---- marks through the last that is not 0 are the first so many
 
@@ -44,25 +42,25 @@ pub record Bare (ms : List ℕ) (n : ℕ) : Type 0 where
   pub few : n ≤ positions
   pub bare : trimmed (drop n ms) ≡ []
 
-module _ (t : List ℕ) (h : Held t) where
+module _ (t : Table) (all : length t.marks ≡ positions) where
   abbrev marks : List ℕ
-  marks = (table_in t).marks
+  marks = t.marks
 
   -- from one mark on
-  behind : (n v : ℕ) → Bare marks (suc n) → v ≡ mark (table_in t) (suc n) → trimmed (drop n marks) ≡ kept v []
+  behind : (n v : ℕ) → Bare marks (suc n) → v ≡ mark t (suc n) → trimmed (drop n marks) ≡ kept v []
   unfolding trimmed nth
-  behind n v k e = rw (drop-cons marks n 0 (omega (arith, h.shaped.marked, k.few)), k.bare, e)
+  behind n v k e = rw (drop-cons marks n 0 (omega (arith, all, k.few)), k.bare, e)
 
   pub bare-none : Bare marks positions
   unfolding trimmed
-  bare-none = record { few = omega arith; bare = rw (← h.shaped.marked, drop-length marks) }
+  bare-none = record { few = omega arith; bare = rw (← all, drop-length marks) }
 
-  pub bare-more : (n v : ℕ) → 0 < n → v ≡ mark (table_in t) n → v ≡ 0 → Bare marks n → Bare marks (n - 1)
+  pub bare-more : (n v : ℕ) → 0 < n → v ≡ mark t n → v ≡ 0 → Bare marks n → Bare marks (n - 1)
   bare-more zero v l e z k = absurd (omega arith)
   bare-more (suc n) v l e z k =
       record { few = omega (arith, k.few); bare = rw sub-one (behind n v k e ∙ ap (λ (m : ℕ). kept m []) z) }
 
-  pub bare-found : (n v : ℕ) → 0 < n → v ≡ mark (table_in t) n → (v ≡ 0 → ⊥) → Bare marks n → n ≡ length (trimmed marks)
+  pub bare-found : (n v : ℕ) → 0 < n → v ≡ mark t n → (v ≡ 0 → ⊥) → Bare marks n → n ≡ length (trimmed marks)
   bare-found zero v l e z k = absurd (omega arith)
   bare-found (suc n) v l e z k = sym (shown n marks (ap length (behind n v k e) ∙ kept-none v z))
 

@@ -3,41 +3,44 @@ use Prim.Native.Nat.{ℕ, zero, suc, ◌+◌, ◌-◌, ◌*◌, ◌≤◌, ◌<�
 use native.Mathlib.Nat.{zero-add}
 use native.Mathlib.Numerals.{add-one, sub-one}
 use native.Mathlib.Omega.{arith}
-use mathlib.Core.Path.{◌≡◌, refl, ap, sym, ◌∙◌}
+use mathlib.Core.Path.{◌≡◌, refl, ap, sym, subst, ◌∙◌}
 use mathlib.Core.List.{List, [], ◌∷◌, ◌++◌, map}
 use lib.ListN.{length, get_or, set, take, replicate, length-append, length-take, get_or-map, get_or-append}
 use lib.Seq.{length-take-le, set-append_left, get_or-append-add}
 use Rattle.words.specs.Lists.{nth, replace}
-use Rattle.algorithm.specs.Table.{Entry, entry_of, no_entry, Log, Server, Table, count, server, term_at, bake_at, mark, changed, with_mark, with_role, with_term, with_config, with_entry, without_last, last, positions}
+use Rattle.algorithm.specs.Table.{Entry, entry_of, no_entry, Log, Server, Table, count, server, term_at, bake_at, mark, changed, with_mark, with_role, with_term, with_config, with_entry, without_last, last, positions, most_servers}
 use Rattle.words.proofs.Lists.{length-replace}
 use Rattle.words.specs.Words.{words, Put}
 use Rattle.table.specs.Layout.{padded, terms, bakes, row, head, table_in, row_words}
-use Rattle.table.specs.Slice.{Holds, Held, Became, Within}
+use Rattle.table.specs.Slice.{Roomy, Holds, Held, Became, Within}
 use Rattle.table.proofs.ListLaws.{set_both}
 use Rattle.table.proofs.LayoutLaws.{length-padded, marks-in}
-use Rattle.table.proofs.HeldLaws.{its-table, held, its-room, Open, opened, read, then, closed, frame, open_row, close_row}
+use Rattle.table.proofs.HeldLaws.{its-table, held, its-room, Open, opened, read, then, closed, frame, open_row, close_row, field-read}
 
 -- ---- the number of servers, the rule and the floor
 
--- a word of row 0
-top_read : (b : List ℕ) (k r : ℕ) → Held b → k < row_words → r ≡ get_or (words b) k 0 → r ≡ get_or (head (table_in b)) k 0
-top_read b k r h l e =
-    let t = table_in b in
-    e
-    ∙ ap (λ (n : ℕ). get_or (words b) n 0) (sym (zero-add k))
-    ∙ read (marks-in t) k (opened (marks-in t) b t.marks h.sized h.laid) l
+-- t is the table in the slice b
+module _ (b : List ℕ) (t : Table) (h : Held b) (is : table_in b ≡ t) where
+  -- a word of row 0
+  top_read : (k r : ℕ) → k < row_words → r ≡ get_or (words b) k 0 → r ≡ get_or (head t) k 0
+  top_read k r l e =
+      let m = marks-in (table_in b) in
+      e
+      ∙ ap (λ (n : ℕ). get_or (words b) n 0) (sym (zero-add k))
+      ∙ read m k (opened m b (table_in b).marks h.sized h.laid) l
+      ∙ ap (λ (u : Table). get_or (head u) k 0) is
 
-pub count-read : (b : List ℕ) (r : ℕ) → Held b → r ≡ get_or (words b) 0 0 → r ≡ count (table_in b)
-count-read b r h e = top_read b 0 r h (omega arith) e
+  pub count-read : (r : ℕ) → r ≡ get_or (words b) 0 0 → r ≡ count t
+  count-read r e = top_read 0 r (omega arith) e
 
-pub rule-read : (b : List ℕ) (r : ℕ) → Held b → r ≡ get_or (words b) 1 0 → r ≡ (table_in b).rule
-rule-read b r h e = top_read b 1 r h (omega arith) e
+  pub rule-read : (r : ℕ) → r ≡ get_or (words b) 1 0 → r ≡ t.rule
+  rule-read r e = top_read 1 r (omega arith) e
 
-pub floor-read : (b : List ℕ) (r : ℕ) → Held b → r ≡ get_or (words b) 2 0 → r ≡ (table_in b).floor
-floor-read b r h e = top_read b 2 r h (omega arith) e
+  pub floor-read : (r : ℕ) → r ≡ get_or (words b) 2 0 → r ≡ t.floor
+  floor-read r e = top_read 2 r (omega arith) e
 
-pub count_small : (b : List ℕ) (r : ℕ) → Held b → r ≡ get_or (words b) 0 0 → r < 256
-count_small b r h e = omega (arith, count-read b r h e, h.shaped.few)
+  pub count_small : (r : ℕ) → r ≡ get_or (words b) 0 0 → r ≤ most_servers
+  count_small r e = omega (arith, count-read r e, ap count is, h.shaped.few)
 
 -- ---- a log in its room
 
@@ -91,14 +94,18 @@ module _ (s : Server) where
       ∙ get_or-append-add front back p 0
       ∙ get-room (λ e. e.bake) s.log p refl (omega arith)
 
-pub mark-read : (b : List ℕ) (p r : ℕ) → Held b → 1 ≤ p → p ≤ positions → r ≡ get_or (words b) (5 + p) 0 → r ≡ mark (table_in b) p
-unfolding nth
-mark-read b zero r h k l e = absurd (omega arith)
-mark-read b (suc p) r h k l e =
-    top_read b (5 + suc p) r h (omega arith) e
-    ∙ ap (λ (n : ℕ). get_or (head (table_in b)) n 0) (past-six p)
-    ∙ get_or-append (padded positions (table_in b).marks) (replicate positions 0) 0 p (omega (arith, length-padded positions (table_in b).marks))
-    ∙ get-padded positions (table_in b).marks p (omega arith)
+module _ (b : List ℕ) (t : Table) (h : Held b) (is : table_in b ≡ t) where
+  pub mark-read : (p r : ℕ) → 1 ≤ p → p ≤ positions → r ≡ get_or (words b) (5 + p) 0 → r ≡ mark t p
+  unfolding nth
+  mark-read zero r k l e = absurd (omega arith)
+  mark-read (suc p) r k l e =
+      top_read b t h is (5 + suc p) r (omega arith) e
+      ∙ ap (λ (n : ℕ). get_or (head t) n 0) (past-six p)
+      ∙ get_or-append (padded positions t.marks) (replicate positions 0) 0 p (omega (arith, length-padded positions t.marks))
+      ∙ get-padded positions t.marks p (omega arith)
+
+  pub marks-all : length t.marks ≡ positions
+  marks-all = sym (ap (λ (u : Table). length u.marks) is) ∙ h.shaped.marked
 
 -- ---- the last entry
 
@@ -114,11 +121,21 @@ last-read s n r e l h = rw (← e) (go n e l h)
     go zero e l h = h ∙ sym e ∙ none s.log
     go (suc p) e l h = entry_read s (suc p) r (omega arith) l h
 
-pub set-small : (b : List ℕ) (i r : ℕ) → Held b → r ≡ (server (table_in b) i).config.set → r < 65536
-set-small b i r h e = omega (arith, e, (its-room i h).small)
+-- a word of a server's row, and what has room there
+module _ (b : List ℕ) (t : Table) (h : Held b) (is : table_in b ≡ t) (i : ℕ) where
+  pub word-seen : (f r : ℕ) → Within t i → f < row_words → r ≡ get_or (words b) (row_words * i + f) 0 → r ≡ get_or (row (server t i)) f 0
+  word-seen f r w l e =
+      field-read h (subst (λ (u : Table). Within u i) (sym is) w) f r l e ∙ ap (λ (u : Table). get_or (row (server u i)) f 0) is
 
-pub log-short : (b : List ℕ) (i r : ℕ) → Held b → r ≡ length (server (table_in b) i).log → r ≤ positions
-log-short b i r h e = omega (arith, e, (its-room i h).short)
+  pub row-room : Roomy (server t i)
+  row-room = subst (λ (u : Table). Roomy (server u i)) is (its-room i h)
+
+module _ (s : Server) (r : ℕ) (room : Roomy s) where
+  pub set-small : r ≡ s.config.set → r < 65536
+  set-small e = omega (arith, room.small)
+
+  pub log-short : r ≡ length s.log → r ≤ positions
+  log-short e = omega (arith, room.short)
 
 -- ---- an entry more, and one less
 
@@ -171,7 +188,7 @@ module _ (s : Server) where
 
 -- ---- figures put
 
-module _ {b : List ℕ} {i : ℕ} (h : Held b) (w : Within b i) where
+module _ {b : List ℕ} {i : ℕ} (h : Held b) (w : Within (table_in b) i) where
   pub role-put : (b' : List ℕ) (v : ℕ) → Put b b' (row_words * i + 0) v → Became b b' (changed (table_in b) i (with_role v))
   role-put b' v p = close_row h w _ (its-room i h) (then (frame h w) (open_row h w) (omega arith) p)
 
@@ -185,22 +202,27 @@ module _ {b : List ℕ} {i : ℕ} (h : Held b) (w : Within b i) where
       close_row h w _ (record { short = (its-room i h).short; small = l })
       (then f (then f (then f (open_row h w) (omega arith) p) (omega arith) q) (omega arith) u)
 
-  pub push-put : (b₁ b₂ b₃ : List ℕ) (n v B : ℕ) → n ≡ length (server (table_in b) i).log → length (server (table_in b) i).log < positions
+  its-length : {t : Table} {n : ℕ} → t ≡ table_in b → n ≡ length (server t i).log → n ≡ length (server (table_in b) i).log
+  its-length is e = e ∙ ap (λ (u : Table). length (server u i).log) is
+
+  pub push-put : (b₁ b₂ b₃ : List ℕ) (t : Table) (n v B : ℕ) → t ≡ table_in b → n ≡ length (server t i).log → length (server (table_in b) i).log < positions
       → Put b b₁ (row_words * i + 5) (n + 1) → Put b₁ b₂ (row_words * i + (5 + (n + 1))) v → Put b₂ b₃ (row_words * i + (69 + (n + 1))) B
       → Became b b₃ (changed (table_in b) i (with_entry (entry_of v B)))
-  push-put b₁ b₂ b₃ n v B e l p q u =
+  push-put b₁ b₂ b₃ t n v B is e l p q u =
       let s = server (table_in b) i in
+      let k : n ≡ length s.log = its-length is e in
       let f = frame h w in
       close_row h w _
       (record { short = omega (arith, length-append s.log (entry_of v B ∷ [])); small = (its-room i h).small })
-      (rw (push_row s n (entry_of v B) e (omega arith)) at
+      (rw (push_row s n (entry_of v B) k (omega arith)) at
       (then f (then f (then f (open_row h w) (omega arith) p) (omega arith) q) (omega arith) u))
 
-  pub pop-put : (b₁ b₂ b₃ : List ℕ) (n : ℕ) → n ≡ length (server (table_in b) i).log → 1 ≤ length (server (table_in b) i).log
+  pub pop-put : (b₁ b₂ b₃ : List ℕ) (t : Table) (n : ℕ) → t ≡ table_in b → n ≡ length (server t i).log → 1 ≤ length (server (table_in b) i).log
       → Put b b₁ (row_words * i + 5) (n - 1) → Put b₁ b₂ (row_words * i + (5 + n)) 0 → Put b₂ b₃ (row_words * i + (69 + n)) 0
       → Became b b₃ (changed (table_in b) i without_last)
-  pop-put b₁ b₂ b₃ n e l p q u =
+  pop-put b₁ b₂ b₃ t n is k l p q u =
       let s = server (table_in b) i in
+      let e : n ≡ length s.log = its-length is k in
       let f = frame h w in
       let r = its-room i h in
       close_row h w _

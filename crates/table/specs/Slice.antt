@@ -58,10 +58,10 @@ pub record Became (b b' : List ℕ) (t : Table) : Type 0 where
   pub held : Held b'
   pub same : count (table_in b') ≡ count (table_in b)
 
--- s is a server of the table in b
-pub record Within (b : List ℕ) (s : ℕ) : Type 0 where
+-- s is a server of the table t
+pub record Within (t : Table) (s : ℕ) : Type 0 where
   pub some : 1 ≤ s
-  pub known : s ≤ count (table_in b)
+  pub known : s ≤ count t
 
 -- n servers of which nothing is known yet, under the rule R and with the floor F, and no marks
 abbrev pub blank : ℕ → ℕ → ℕ → Table

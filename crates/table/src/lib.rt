@@ -5,8 +5,10 @@ use crate::rows::ROW;
 use algorithm::SERVERS;
 
 pub mod figures;
-pub mod marks;
 pub mod rows;
+pub mod view;
+
+pub use view::Table;
 
 // The length of a table's slice.
 pub const BYTES: usize = 4 * ROW * (1 + SERVERS as usize);

@@ -1,11 +1,12 @@
 -- What a loop over a list of actions reads from what it finds: that it stays within the list, that its place grows, and where it ends. Assumes nothing.
 use Prim.Native.Nat.{ℕ, ◌+◌, ◌-◌, ◌≤◌, ◌<◌, min}
 use mathlib.Core.Path.{◌≡◌, refl, sym, ◌∙◌, subst}
-use mathlib.Core.List.{List}
+use mathlib.Core.List.{List, [], ◌∷◌}
 use native.Mathlib.Decide.{dec_le}
 use native.Mathlib.Omega.{arith}
 use borrow.Author.Tests.{le-leb, lt-leb}
-use lib.ListN.{length}
+use lib.ListN.{length, take, drop, length-drop}
+use lib.Seq.{take_all}
 use denote.Ref.{Bor}
 use Rattle.walk.specs.declared.Walk.{Walk}
 use Rattle.walk.specs.declared.Found.{Found}
@@ -64,6 +65,33 @@ behind-is p at l = of (stands p at)
     of (whole m) = omega arith
     of (cut m s) = omega arith
     of (none m) = omega arith
+
+-- the bytes from a place within the list to the place behind
+module _ (p : List ℕ) (at end : ℕ) (e : end ≡ behind p at) (l : at < length p) where
+  is : end ≡ min (at + 8) (length p)
+  is = e ∙ behind-is p at (omega arith)
+
+  pub piece-starts : at ≤ end
+  piece-starts = omega (arith, is)
+
+  pub piece-ends : end ≤ length p
+  piece-ends = omega (arith, is)
+
+  pub piece-is : take (end - at) (drop at p) ≡ take 8 (drop at p)
+  piece-is = go (dec_le (at + 8) (length p))
+    where
+      go : Dec (at + 8 ≤ length p) → take (end - at) (drop at p) ≡ take 8 (drop at p)
+      go (yes l) = let n : end - at ≡ 8 = omega (arith, is) in rw n
+      go (no l) =
+          take_all (end - at) (drop at p) (omega (arith, length-drop at p, is))
+          ∙ sym (take_all 8 (drop at p) (omega (arith, length-drop at p)))
+
+pub piece-none : (p : List ℕ) (at : ℕ) → length p ≤ at → [] ≡ take 8 (drop at p)
+piece-none p at l = none (drop at p) (omega (arith, length-drop at p))
+  where
+    none : (l : List ℕ) → length l ≡ 0 → [] ≡ take 8 l
+    none [] h = refl
+    none (x ∷ l) h = absurd (omega arith)
 
 -- two walks over one list at one place are one walk
 pub walk-unique : {v w : Walk} {s : Bor (List ℕ)} {n : ℕ} → (v.actions ≡ s) × (v.at ≡ n) → (w.actions ≡ s) × (w.at ≡ n) → v ≡ w

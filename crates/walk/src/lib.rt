@@ -1,8 +1,8 @@
-// A walk over a list of actions. What takes or returns the struct is thin: the work is in `found_at` and `end_at`, on the slice and the
-// number, and callers use `next` and `next_place`, whose parameters are plain.
+// A walk over a list of actions. What takes or returns the struct is thin: the work is in `found_at`, `end_at` and `piece_at`, on the
+// slice and the number.
 #![tactic(auto)]
 
-ghost use Rattle.std.specs.Prelude.{◌≡◌};
+ghost use Rattle.std.specs.Prelude.{◌≡◌, take, drop};
 ghost use Rattle.walk.specs.Plan.{found_at, behind};
 
 // The list and the place in it together.
@@ -45,41 +45,47 @@ fn end_at(list: &[u8], at: usize) -> usize
     }
 }
 
-pub fn walk_from<'a>(actions: &'a [u8], at: usize) -> Walk<'a>
-    ensures { (result.actions ≡ actions.entry) × (result.at ≡ at) }
+fn piece_at(list: &[u8], at: usize) -> &[u8]
+    ensures { result.now ≡ take 8 (drop at list.now) }
 {
-    Walk { actions, at }
-}
-
-pub fn found_here<'a>(w: Walk<'a>) -> Found
-    ensures { result ≡ found_at w.entry.actions.now w.entry.at }
-{
-    found_at(w.actions, w.at)
-}
-
-pub fn advance<'a>(w: Walk<'a>) -> Walk<'a>
-    ensures { (result.actions ≡ w.entry.actions) × (result.at ≡ behind w.entry.actions.now w.entry.at) }
-{
-    Walk {
-        actions: w.actions,
-        at: end_at(w.actions, w.at),
+    if list.len() <= at {
+        return &[];
     }
+    let end = end_at(list, at);
+    &list[at..end]
 }
 
-pub fn place<'a>(w: Walk<'a>) -> usize
-    ensures { result ≡ w.entry.at }
-{
-    w.at
-}
+impl<'a> Walk<'a> {
+    pub fn from(actions: &'a [u8], at: usize) -> Self
+        ensures { (result.actions ≡ actions.entry) × (result.at ≡ at) }
+    {
+        Walk { actions, at }
+    }
 
-pub fn next(actions: &[u8], at: usize) -> Found
-    ensures { result ≡ found_at actions.now at }
-{
-    found_here(walk_from(actions, at))
-}
+    // What stands at the place.
+    pub fn found(&self) -> Found
+        ensures { result ≡ found_at self.now.actions.now self.now.at }
+    {
+        found_at(self.actions, self.at)
+    }
 
-pub fn next_place(actions: &[u8], at: usize) -> usize
-    ensures { result ≡ behind actions.now at }
-{
-    place(advance(walk_from(actions, at)))
+    // The bytes that stand there: those of an action, fewer, or none.
+    pub fn piece(&self) -> &'a [u8]
+        ensures { result.now ≡ take 8 (drop self.now.at self.now.actions.now) }
+    {
+        piece_at(self.actions, self.at)
+    }
+
+    // The place is behind what stood there.
+    pub fn advance(&mut self)
+        ensures { (self.new.actions ≡ self.old.actions) × (self.new.at ≡ behind self.old.actions.now self.old.at) }
+    {
+        self.at = end_at(self.actions, self.at);
+    }
+
+    pub fn place(&self) -> usize
+        ensures { result ≡ self.now.at }
+    {
+        self.at
+    }
 }

@@ -4,40 +4,15 @@ use native.Mathlib.Numerals.{add-one}
 use native.Mathlib.Omega.{arith}
 use mathlib.Core.Path.{◌≡◌, refl, ap, sym, subst, ◌∙◌}
 use mathlib.Core.List.{List, [], ◌∷◌, ◌++◌, append-nil}
-use lib.ListN.{length, get_or, set, drop, replicate, length-set, length-append, length-replicate, replicate-append-replicate}
-use borrow.Author.Fill.{fill_none, fill_more}
-use lib.Seq.{drop-length, set_at, get_or_at, append_snoc}
+use lib.ListN.{length, get_or, set, replicate, length-replicate, replicate-append-replicate}
+use lib.Seq.{set_at, get_or_at, append_snoc}
 use Rattle.words.specs.Lists.{nth, replace}
 use Rattle.algorithm.specs.Table.{Server, Table, count, absent, changed, with_config, fresh_server, fresh, positions, most_servers, with_servers, config_of}
 use Rattle.words.specs.Words.{words, Put}
 use Rattle.table.specs.Layout.{table_bytes, padded, rows, layout, table_in, row_words, table_words}
-use Rattle.table.specs.Slice.{AllRoomy, Holds, Held, Became, Within, blank}
+use Rattle.table.specs.Slice.{AllRoomy, Holds, Held, Became, blank}
 use Rattle.table.proofs.LayoutLaws.{rows_none}
-use Rattle.table.proofs.HeldLaws.{its-table, held}
-
--- ---- a slice of 0
-
--- the first i bytes of d are cleared
-pub record Cleared (d t : List ℕ) (i : ℕ) : Type 0 where
-  pub within : i ≤ length d
-  pub sized : length t ≡ length d
-  pub bytes : t ≡ replicate i 0 ++ drop i d
-
-pub cleared-none : (d : List ℕ) → Cleared d d 0
-cleared-none d = record { within = omega arith; sized = refl; bytes = fill_none d 0 }
-
-pub cleared_more : (d t : List ℕ) (i : ℕ) → i < length t → Cleared d t i → Cleared d (set t i 0) (i + 1)
-cleared_more d t i h c =
-    record {
-      within = omega (arith, c.sized);
-      sized = length-set t i 0 ∙ c.sized;
-      bytes = ap (λ (l : List ℕ). set l i 0) c.bytes ∙ fill_more i 0 d (omega (arith, c.sized));
-    }
-
-pub cleared-all : (d t : List ℕ) (i : ℕ) → length t ≤ i → Cleared d t i → t ≡ replicate (length d) 0
-cleared-all d t i h c =
-    let all : i ≡ length d = omega (arith, c.sized, c.within) in
-    c.bytes ∙ ap (λ (k : ℕ). replicate k 0 ++ drop k d) all ∙ rw (drop-length d) (append-nil (replicate (length d) 0))
+use Rattle.table.proofs.HeldLaws.{its-table}
 
 -- ---- a blank table
 
@@ -82,10 +57,10 @@ blank-holds b b₁ b₂ b₃ b₄ n R F z h e p q u =
 abbrev partly : Table → ℕ → ℕ → ℕ → Table
 partly t n m k = with_servers (replicate k (fresh_server m) ++ replicate (n - k) absent) t
 
--- of the servers of the table in the slice d, which has become b, the first k have the set m
+-- of the n servers of the table in the slice d, which has become b, the first k have the set m
 pub record Given (d b : List ℕ) (n m k : ℕ) : Type 0 where
-  pub within : k ≤ n
-  pub holds : Holds b (partly (table_in d) n m k)
+  pub became : Became d b (partly (table_in d) n m k)
+  pub all : count (table_in d) ≡ n
 
 -- one server more
 partly-next : (t : Table) (n m k : ℕ) → k < n → changed (partly t n m k) (k + 1) (with_config (config_of m 1 0)) ≡ partly t n m (k + 1)
@@ -101,40 +76,39 @@ partly-next t n m k h =
     sym (append_snoc front F rest) ∙ ap (λ (l : List Server). l ++ rest) (replicate-append-replicate k 1 F ∙ ap (λ (j : ℕ). replicate j F) (add-one k)) in
     rw (add-one k, left, there, put, longer)
 
-module _ (d b : List ℕ) (n m : ℕ) where
-  module _ (k : ℕ) (g : Given d b n m k) where
-    many : count (partly (table_in d) n m k) ≡ n
-    many = simp (length-append, length-replicate) (omega (arith, g.within))
-
-    pub given-held : Held b
-    given-held = held g.holds
-
-    pub given-within : k < n → Within b (k + 1)
-    given-within h = record { some = omega arith; known = rw (its-table g.holds) (omega (arith, many)) }
-
-    pub given-more : (b' : List ℕ) → k < n
-        → Became b b' (changed (table_in b) (k + 1) (with_config (config_of m 1 0)))
-        → Given d b' n m (k + 1)
-    given-more b' h c =
-        record {
-          within = omega arith;
-          holds = subst (λ (t : Table). Holds b' t) (partly-next (table_in d) n m k h) (rw (its-table g.holds) at c.holds);
-        }
-
-    pub given-all : n ≤ k → Holds b (with_servers (replicate n (fresh_server m)) (table_in d))
-    given-all h =
-        let all : k ≡ n = omega (arith, g.within) in
-        let none : n - k ≡ 0 = omega arith in
-        let every : (partly (table_in d) n m k).servers ≡ replicate n (fresh_server m) =
-        ap (λ (j : ℕ). replicate k (fresh_server m) ++ replicate j absent) none
-        ∙ append-nil (replicate k (fresh_server m))
-        ∙ ap (λ (j : ℕ). replicate j (fresh_server m)) all in
-        subst (λ (ss : List Server). Holds b (with_servers ss (table_in d))) every g.holds
-
 pub given-none : (b : List ℕ) (n m : ℕ) → Held b → (table_in b).servers ≡ replicate n absent → Given b b n m 0
 given-none b n m h e =
-    let all : n - 0 ≡ n = omega arith in
-    record { within = omega arith; holds = subst (λ (ss : List Server). Holds b (with_servers ss (table_in b))) (e ∙ ap (λ (j : ℕ). replicate j absent) (sym all)) h }
+    let left : n - 0 ≡ n = omega arith in
+    record {
+      became = record {
+        holds = subst (λ (ss : List Server). Holds b (with_servers ss (table_in b))) (e ∙ ap (λ (j : ℕ). replicate j absent) (sym left)) h;
+        held = h;
+        same = refl;
+      };
+      all = ap length e ∙ length-replicate n absent;
+    }
+
+module _ (d b : List ℕ) (n m k : ℕ) (g : Given d b n m k) where
+  pub given-more : (b' : List ℕ) → k < n → Became b b' (changed (table_in b) (k + 1) (with_config (config_of m 1 0))) → Given d b' n m (k + 1)
+  given-more b' h c =
+      record {
+        became = record {
+          holds = subst (λ (t : Table). Holds b' t) (partly-next (table_in d) n m k h) (rw (its-table g.became.holds) at c.holds);
+          held = c.held;
+          same = c.same ∙ g.became.same;
+        };
+        all = g.all;
+      }
+
+  pub given-all : k ≤ n → n ≤ k → Holds b (with_servers (replicate n (fresh_server m)) (table_in d))
+  given-all l h =
+      let all : k ≡ n = omega arith in
+      let none : n - k ≡ 0 = omega arith in
+      let every : (partly (table_in d) n m k).servers ≡ replicate n (fresh_server m) =
+      ap (λ (j : ℕ). replicate k (fresh_server m) ++ replicate j absent) none
+      ∙ append-nil (replicate k (fresh_server m))
+      ∙ ap (λ (j : ℕ). replicate j (fresh_server m)) all in
+      subst (λ (ss : List Server). Holds b (with_servers ss (table_in d))) every g.became.holds
 
 -- a blank table, and what it is once its servers are given a set
 module _ (b : List ℕ) (n R F : ℕ) (h : Holds b (blank n R F)) where

@@ -4,6 +4,7 @@ use native.Mathlib.Omega.{arith}
 use mathlib.Core.Path.{◌≡◌, refl, ap, sym, ◌∙◌}
 use mathlib.Core.Bool.{Bool, true, false, ◌&&◌}
 use mathlib.Core.List.{List}
+use mathlib.Core.Logic.{◌⊎◌, ⊎_elim}
 use lib.Dec.{eqb}
 use lib.ListN.{length, get_or}
 use borrow.Author.Tests.{ne_eqb}
@@ -55,14 +56,13 @@ module _ (b : List ℕ) (n : ℕ) (first : n ≡ get_or (words b) 0 0) where
   counted : Passes (whole b) → (1 ≤ n) × (n ≤ most_servers)
   counted h =
       let k = kept b h in
-      let e = count-read b n k.held first in
+      let e = count-read b (table_in b) k.held refl n first in
       (omega (arith, k.sound.some), omega (arith, k.sound.few))
 
-  pub no-server : n ≡ 0 → false ≡ whole b
-  no-server e = tell-same false (whole b) (λ h. absurd h.yes) (λ h. absurd (omega (arith, counted h)))
-
-  pub too_many : most_servers < n → false ≡ whole b
-  too_many l = tell-same false (whole b) (λ h. absurd h.yes) (λ h. absurd (omega (arith, counted h)))
+  pub miscounted : (n ≡ 0) ⊎ ((n ≡ 0 → ⊥) × (most_servers < n)) → false ≡ whole b
+  miscounted e =
+      tell-same false (whole b) (λ h. absurd h.yes)
+      (λ h. let (some, few) = counted h in ⊎_elim (λ none. absurd (omega arith)) (λ (_, many). absurd (omega arith)) e)
 
   pub answer : (r : Bool) → ((i : ℕ) → get_or b i 0 < 256) → length b ≡ table_bytes → (n ≡ 0 → ⊥) → n ≤ most_servers → r ≡ sound_words n (words b) → r ≡ whole b
   answer r bytewise sized some few e = e ∙ tell-same (sound_words n (words b)) (whole b) whole_by by_whole
@@ -78,4 +78,4 @@ module _ (b : List ℕ) (n : ℕ) (first : n ≡ get_or (words b) 0 0) where
       by_whole : Passes (whole b) → Passes (sound_words n (words b))
       by_whole h =
           let k = kept b h in
-          rw (count-read b n k.held first, k.held.laid) (words-pass k.sound)
+          rw (count-read b (table_in b) k.held refl n first, k.held.laid) (words-pass k.sound)

@@ -8,22 +8,12 @@ use algorithm::{Term, Version};
 use table::rows::{FLOOR, RULE, put_config};
 use words::put;
 
-fn zero(t: &mut [u8])
-    ensures { t.new ≡ replicate (length t.old) 0 }
-{
-    let mut i: usize = 0;
-    while i < t.len() {
-        t[i] = 0;
-        i += 1;
-    }
-}
-
 // A table of n servers of which nothing is known yet, for a reader to fill.
 pub fn fill_blank(t: &mut [u8], n: u8, rule: u8, floor: u8)
     requires { (length t.old ≡ table_bytes) × (n ≤ most_servers) }
     ensures { Holds t.new (blank n rule floor) }
 {
-    zero(t);
+    t.fill(0);
     put(t, 0, n as u32);
     put(t, RULE, rule as u32);
     put(t, FLOOR, floor as u32);
@@ -35,10 +25,8 @@ fn give_set(t: &mut [u8], n: u8, set: u16)
     requires t_value { (table_in t.old).servers ≡ replicate n absent }
     ensures { Holds t.new (with_servers (replicate n (fresh_server set)) (table_in t.old)) }
 {
-    let mut k: u8 = 0;
-    while k < n {
-        k += 1;
-        put_config(t, k as usize, set, Version(1), Term(0));
+    for k in 0..n as usize {
+        put_config(t, k + 1, set, Version(1), Term(0));
     }
 }
 

@@ -69,10 +69,8 @@ fn rows_sound(t: &[u8], n: u8) -> bool
     ensures { result ≡ sound_rows n n (drop row_words (words t.now)) }
 {
     let mut ok = true;
-    let mut k: u8 = 0;
-    while k < n {
-        k += 1;
-        ok = ok & row_sound(t, n, k as usize);
+    for k in 0..n as usize {
+        ok = ok & row_sound(t, n, k + 1);
     }
     ok
 }
@@ -101,10 +99,7 @@ pub fn is_whole(t: &[u8]) -> bool
         return false;
     }
     let n = word(t, 0);
-    if n == 0 {
-        return false;
-    }
-    if MOST < n {
+    if n == 0 || MOST < n {
         return false;
     }
     words_sound(t, n as u8)

@@ -2,7 +2,7 @@
 use Prim.Native.Nat.{ℕ, ◌+◌, ◌*◌, ◌≤◌, ◌<◌}
 use native.Mathlib.Numerals.{add-one}
 use native.Mathlib.Omega.{arith}
-use mathlib.Core.Path.{◌≡◌, refl, ap, sym, ◌∙◌}
+use mathlib.Core.Path.{◌≡◌, refl, sym, ◌∙◌}
 use mathlib.Core.Bool.{Bool, true, ◌&&◌}
 use mathlib.Core.List.{List}
 use lib.ListN.{length, get_or, drop, length-drop}
@@ -31,8 +31,3 @@ module _ (b : List ℕ) (k low high : ℕ) where
             rw (e.tells, v, add-one)
             (sym (every_more (between low high) d 0 i (simp length-drop (omega (arith, length-words b)))));
       }
-
-  pub tested-all : (n i : ℕ) (ok : Bool) → i ≤ n → n ≤ i → Tested b k low high i ok → ok ≡ every (between low high) (part (words b) k n)
-  tested-all n i ok l m e =
-      let same : i ≡ n = omega arith in
-      e.tells ∙ ap (λ (j : ℕ). every (between low high) (part (words b) k j)) same

@@ -1,12 +1,15 @@
 -- Laws of words: one read, one put, and back to the bytes. Assumes nothing.
-use Prim.Native.Nat.{ℕ, zero, suc, ◌+◌, ◌*◌, ◌/◌, ◌%◌, ◌≤◌, ◌<◌}
-use native.Mathlib.Nat.{div-div-eq-div-mul, div-add-mod'}
+use Prim.Native.Nat.{ℕ, zero, suc, ◌+◌, ◌-◌, ◌*◌, ◌/◌, ◌%◌, ◌^◌, ◌≤◌, ◌<◌}
+use native.Mathlib.Nat.{div-div-eq-div-mul}
 use native.Mathlib.Omega.{arith}
-use mathlib.Core.Path.{◌≡◌, refl, ap, sym, ◌∙◌}
+use mathlib.Core.Path.{◌≡◌, refl, ap, ap₂, sym, ◌∙◌}
 use mathlib.Core.List.{List, [], ◌∷◌, ◌++◌, append_assoc}
 use lib.Dec.{leb}
-use lib.ListN.{length, get_or, set, take, drop, replicate, length-set, length-append}
-use lib.Seq.{length-take-le, take_at, drop-drop, drop-append-add}
+use lib.ListN.{length, get_or, set, take, drop, replicate, length-set}
+use lib.Seq.{sets-eq}
+use borrow.Rule.Slice.PartMut.{put_mid, Post-is}
+use Rattle.std.proofs.lemmas.Nat.{from_le_bytes-to_le_bytes_4}
+use Rattle.std.specs.Int.{w32, w64, to_le_bytes, from_le_bytes}
 use Rattle.words.proofs.Tests.{Passes, both, at_most}
 use Rattle.words.specs.Lists.{every, between}
 use Rattle.words.proofs.Lists.{every-cons}
@@ -30,9 +33,10 @@ word_at (x ∷ y ∷ z ∷ []) k h = absurd (omega arith)
 word_at (x ∷ y ∷ z ∷ w ∷ r) zero h = refl
 word_at (x ∷ y ∷ z ∷ w ∷ r) (suc k) h = rw (past k 1, past k 2, past k 3, past-0 k) (word_at r k (omega arith))
 
+-- so is what the library reads of them
 pub word_read : (b : List ℕ) (k r : ℕ) → 4 * k + 4 ≤ length b
-    → r ≡ word_of (get_or b (4 * k) 0) (get_or b (4 * k + 1) 0) (get_or b (4 * k + 2) 0) (get_or b (4 * k + 3) 0) → r ≡ get_or (words b) k 0
-word_read b k r h e = e ∙ sym (word_at b k h)
+    → r ≡ from_le_bytes w32 (get_or b (4 * k) 0 ∷ get_or b (4 * k + 1) 0 ∷ get_or b (4 * k + 2) 0 ∷ get_or b (4 * k + 3) 0 ∷ []) → r ≡ get_or (words b) k 0
+word_read b k r h e = omega (arith, word_at b k h)
 
 -- b with four bytes put at 4k and after
 abbrev stores : List ℕ → ℕ → ℕ → ℕ → ℕ → ℕ → List ℕ
@@ -48,25 +52,29 @@ word-stores (x ∷ y ∷ z ∷ w ∷ r) zero p q u v h = refl
 word-stores (x ∷ y ∷ z ∷ w ∷ r) (suc k) p q u v h =
     rw (past k 1, past k 2, past k 3, past-0 k) (ap (λ (l : List ℕ). word_of x y z w ∷ l) (word-stores r k p q u v (omega arith)))
 
-digits : (v q₁ q₂ q₃ r₀ r₁ r₂ r₃ : ℕ) → v ≡ q₁ * 256 + r₀ → q₁ ≡ q₂ * 256 + r₁ → q₂ ≡ q₃ * 256 + r₂ → q₃ ≡ r₃ → word_of r₀ r₁ r₂ r₃ ≡ v
-digits v q₁ q₂ q₃ r₀ r₁ r₂ r₃ e₀ e₁ e₂ e₃ = omega arith
-
-split : (v : ℕ) → v ≡ v / 256 * 256 + v % 256
-split v = sym (div-add-mod' v 256)
-
 -- the four bytes of a number make it again
 word-of : (v : ℕ) → v < 4294967296 → word_of (v % 256) (v / 256 % 256) (v / 65536 % 256) (v / 16777216 % 256) ≡ v
-word-of v h =
-    digits v (v / 256) (v / 65536) (v / 16777216) _ _ _ _
-    (split v)
-    (rw (← div-div-eq-div-mul v 256 256) (split (v / 256)))
-    (rw (← div-div-eq-div-mul v 65536 256) (split (v / 65536)))
-    (omega arith)
+word-of v h = omega (arith, from_le_bytes-to_le_bytes_4 v h)
 
-pub word-put : (b : List ℕ) (k v : ℕ) → 4 * k + 4 ≤ length b → v < 4294967296
-    → Put b (put_word b k v) k v
-word-put b k v h l =
-    record { bytes = refl; sized = simp length-set; word = word-stores b k _ _ _ _ h ∙ ap (λ (x : ℕ). set (words b) k x) (word-of v l) }
+-- four bytes put one after another stand between what was before them and what was behind
+stores-between : (b : List ℕ) (k p q u v : ℕ) → 4 * k + 4 ≤ length b
+    → take (4 * k) b ++ (p ∷ q ∷ u ∷ v ∷ drop (4 * k + 4) b) ≡ stores b k p q u v
+stores-between b k p q u v h =
+    let second : 4 * k + 1 ≡ suc (4 * k) = omega arith in
+    let third : 4 * k + 2 ≡ suc (suc (4 * k)) = omega arith in
+    let fourth : 4 * k + 3 ≡ suc (suc (suc (4 * k))) = omega arith in
+    rw (second, third, fourth) (sym (sets-eq (p ∷ q ∷ u ∷ v ∷ []) b (4 * k) h ∙ append_assoc (take (4 * k) b) (p ∷ q ∷ u ∷ v ∷ []) (drop (4 * k + 4) b)))
+
+-- the four bytes of v, as the library has them, copied over word k
+pub word-put : (b c : List ℕ) (k v : ℕ) → 4 * k + 4 ≤ length b → v < 2 ^ 32 → c ≡ to_le_bytes w32 v
+    → Put b (put_mid (4 * k) (4 * k + 4 - 4 * k) b c) k v
+word-put b c k v h l e =
+    let put : put_mid (4 * k) (4 * k + 4 - 4 * k) b c ≡ put_word b k v = rw (e, Post-is (4 * k) (4 * k + 4) b (omega arith)) (stores-between b k _ _ _ _ h) in
+    record {
+      bytes = put;
+      sized = ap length put ∙ simp length-set;
+      word = ap words put ∙ word-stores b k _ _ _ _ h ∙ ap (λ (x : ℕ). set (words b) k x) (word-of v l);
+    }
 
 -- two slices that satisfy it are equal
 pub put-unique : {b b' b'' : List ℕ} {k v : ℕ} → Put b b' k v → Put b b'' k v → b' ≡ b''
@@ -88,17 +96,14 @@ length-bytes [] = refl
 length-bytes (w ∷ c) = omega (arith, length-bytes c)
 
 -- the bytes of a word are those that made it
-byte-0 : (a b c d : ℕ) → a < 256 → word_of a b c d % 256 ≡ a
-byte-0 a b c d ha = omega arith
-
-byte-1 : (a b c d : ℕ) → a < 256 → b < 256 → word_of a b c d / 256 % 256 ≡ b
-byte-1 a b c d ha hb = omega arith
-
-byte-2 : (a b c d : ℕ) → a < 256 → b < 256 → c < 256 → word_of a b c d / 65536 % 256 ≡ c
-byte-2 a b c d ha hb hc = omega arith
-
-byte-3 : (a b c d : ℕ) → a < 256 → b < 256 → c < 256 → d < 256 → word_of a b c d / 16777216 % 256 ≡ d
-byte-3 a b c d ha hb hc hd = omega arith
+word-bytes : (a b c d : ℕ) → a < 256 → b < 256 → c < 256 → d < 256 → bytes (word_of a b c d ∷ []) ≡ a ∷ b ∷ c ∷ d ∷ []
+unfolding bytes
+word-bytes a b c d ha hb hc hd =
+    let first : word_of a b c d % 256 ≡ a = omega arith in
+    let second : word_of a b c d / 256 % 256 ≡ b = omega arith in
+    let third : word_of a b c d / 65536 % 256 ≡ c = omega arith in
+    let fourth : word_of a b c d / 16777216 % 256 ≡ d = omega arith in
+    rw (first, second, third, fourth)
 
 pub bytes-words : (b : List ℕ) (k : ℕ) → length b ≡ 4 * k → ((i : ℕ) → get_or b i 0 < 256) → bytes (words b) ≡ b
 unfolding words bytes
@@ -108,11 +113,7 @@ bytes-words (x ∷ y ∷ []) k e h = absurd (omega arith)
 bytes-words (x ∷ y ∷ z ∷ []) k e h = absurd (omega arith)
 bytes-words (x ∷ y ∷ z ∷ w ∷ r) zero e h = absurd (omega arith)
 bytes-words (x ∷ y ∷ z ∷ w ∷ r) (suc k) e h =
-    let hx : x < 256 = h 0 in
-    let hy : y < 256 = h 1 in
-    let hz : z < 256 = h 2 in
-    let hw : w < 256 = h 3 in
-    rw (byte-0 x y z w, byte-1 x y z w, byte-2 x y z w, byte-3 x y z w, bytes-words r k (omega arith) (λ i. h (suc (suc (suc (suc i))))))
+    ap₂ ◌++◌ (word-bytes x y z w (h 0) (h 1) (h 2) (h 3)) (bytes-words r k (omega arith) (λ i. h (suc (suc (suc (suc i))))))
 
 -- each is a number of four bytes
 abbrev pub FourBytes : List ℕ → Type 0
@@ -165,35 +166,17 @@ words-between low high small (x ∷ l) h =
 
 -- ---- eight bytes
 
--- four bytes put stand between what was before them and what was behind
-stores-between : (b : List ℕ) (k p q u v : ℕ) → 4 * k + 4 ≤ length b
-    → stores b k p q u v ≡ take (4 * k) b ++ (p ∷ q ∷ u ∷ v ∷ drop (4 * k + 4) b)
-stores-between [] k p q u v h = absurd (omega arith)
-stores-between (x ∷ []) k p q u v h = absurd (omega arith)
-stores-between (x ∷ y ∷ []) k p q u v h = absurd (omega arith)
-stores-between (x ∷ y ∷ z ∷ []) k p q u v h = absurd (omega arith)
-stores-between (x ∷ y ∷ z ∷ w ∷ r) zero p q u v h = refl
-stores-between (x ∷ y ∷ z ∷ w ∷ r) (suc k) p q u v h =
-    rw (past k 1, past k 2, past k 3, past k 4, past-0 k) (ap (λ (l : List ℕ). x ∷ y ∷ z ∷ w ∷ l) (stores-between r k p q u v (omega arith)))
-
--- two numbers of four bytes put one behind the other are one of eight
-pub eight-put : (b b₁ b₂ : List ℕ) (k v : ℕ) → 8 * k + 8 ≤ length b → Put b b₁ (2 * k) (v % 4294967296) → Put b₁ b₂ (2 * k + 1) (v / 4294967296)
-    → b₂ ≡ put_eight b k v
+-- the eight bytes of v, as the library has them, copied over the k-th eight
+pub eight-put : (b c : List ℕ) (k v : ℕ) → 8 * k + 8 ≤ length b → c ≡ to_le_bytes w64 v
+    → put_mid (8 * k) (8 * k + 8 - 8 * k) b c ≡ put_eight b k v
 unfolding bytes
-eight-put b b₁ b₂ k v h low high =
-    let at : 4 * (2 * k) ≡ 8 * k = omega arith in
-    let next : 4 * (2 * k + 1) ≡ 8 * k + 4 = omega arith in
-    let end : 8 * k + 4 + 4 ≡ 8 * k + 8 = omega arith in
-    let front : List ℕ = take (8 * k) b ++ bytes (v % 4294967296 ∷ []) in
-    let rest : List ℕ = drop (8 * k + 4) b in
-    let long : length front ≡ 8 * k + 4 = omega (arith, length-append (take (8 * k) b) (bytes (v % 4294967296 ∷ [])), length-take-le (8 * k) b (omega arith)) in
-    let first : b₁ ≡ front ++ rest =
-    low.bytes ∙ stores-between b (2 * k) _ _ _ _ (omega arith) ∙ rw at (sym (append_assoc (take (8 * k) b) (bytes (v % 4294967296 ∷ [])) rest)) in
-    let before : take (8 * k + 4) b₁ ≡ front = ap (take (8 * k + 4)) first ∙ take_at front rest (8 * k + 4) long in
-    let behind : drop (8 * k + 4 + 4) b₁ ≡ drop (8 * k + 8) b =
-    ap (drop (8 * k + 4 + 4)) first ∙ ap (λ (n : ℕ). drop (n + 4) (front ++ rest)) (sym long) ∙ drop-append-add front rest 4 ∙ drop-drop 4 (8 * k + 4) b ∙ rw end in
-    high.bytes ∙ stores-between b₁ (2 * k + 1) _ _ _ _ (omega (arith, low.sized))
-    ∙ rw (next, before, behind) (append_assoc (take (8 * k) b) (bytes (v % 4294967296 ∷ [])) _)
+eight-put b c k v h e =
+    let first : v % 4294967296 % 256 ≡ v % 256 = omega arith in
+    let second : v % 4294967296 / 256 % 256 ≡ v / 256 % 256 = omega arith in
+    let third : v % 4294967296 / 65536 % 256 ≡ v / 65536 % 256 = omega arith in
+    let fourth : v % 4294967296 / 16777216 % 256 ≡ v / 16777216 % 256 = omega arith in
+    rw (e, Post-is (8 * k) (8 * k + 8) b (omega arith), first, second, third, fourth)
+    (simp div-div-eq-div-mul)
 
 -- eight bytes are those of their number
 pub eight-value : (a b c d e f g h : ℕ) → a < 256 → b < 256 → c < 256 → d < 256 → e < 256 → f < 256 → g < 256 → h < 256
@@ -203,5 +186,4 @@ eight-value a b c d e f g h ha hb hc hd he hf hg hh =
     let value : ℕ = value_of (a ∷ b ∷ c ∷ d ∷ e ∷ f ∷ g ∷ h ∷ []) in
     let low : value % 4294967296 ≡ word_of a b c d = omega arith in
     let high : value / 4294967296 ≡ word_of e f g h = omega arith in
-    rw (low, high, byte-0 a b c d ha, byte-1 a b c d ha hb, byte-2 a b c d ha hb hc, byte-3 a b c d ha hb hc hd)
-    (rw (byte-0 e f g h he, byte-1 e f g h he hf, byte-2 e f g h he hf hg, byte-3 e f g h he hf hg hh))
+    rw (low, high) (ap₂ ◌++◌ (word-bytes a b c d ha hb hc hd) (word-bytes e f g h he hf hg hh))

@@ -61,7 +61,7 @@ trim-padded : (w : List ℕ) → length w ≤ positions → Passes (eqb (length 
 unfolding nth
 trim-padded [] h e = ap trimmed (padded-is positions [] positions (omega arith)) ∙ trim-zeros positions
 trim-padded (x ∷ w) h e =
-    let last : 1 ≤ get_or (x ∷ w) (length w) 0 = ⊎_elim (λ z. absurd (omega (arith, equal {a = suc (length w)} {b = 0} z))) at_most (either e) in
+    let last : 1 ≤ get_or (x ∷ w) (length w) 0 = ⊎_elim (λ (z : Passes (eqb (suc (length w)) 0)). absurd (omega (arith, equal {a = suc (length w)} {b = 0} z))) at_most (either e) in
     ap trimmed (padded-is positions (x ∷ w) (positions - length (x ∷ w)) (omega arith)) ∙ trim-last x w (positions - length (x ∷ w)) last
 
 pub marks-copy : (b : List ℕ) (k : ℕ) → Bytes b → length b ≡ 4 * k → length b ≤ 4 * positions → Passes (sound_marks_body b) → marks_body (marks_in b) ≡ b

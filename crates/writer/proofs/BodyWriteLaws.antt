@@ -1,12 +1,13 @@
 -- Numbers and bodies that are written one behind another. Assumes nothing.
 use Prim.Native.Nat.{ℕ, zero, suc, ◌+◌, ◌-◌, ◌*◌, ◌/◌, ◌%◌, ◌≤◌, ◌<◌}
-use native.Mathlib.Nat.{div-div-eq-div-mul}
+use native.Mathlib.Nat.{mul-suc}
 use native.Mathlib.Numerals.{add-one}
 use native.Mathlib.Omega.{arith}
 use mathlib.Core.Path.{◌≡◌, refl, ap, ◌∙◌}
 use mathlib.Core.List.{List, [], ◌∷◌, ◌++◌}
-use lib.ListN.{length, get_or, take, drop, get_or-map}
-use lib.Seq.{take-take, take_all}
+use lib.ListN.{length, get_or, take, drop, length-drop, get_or-map}
+use lib.Seq.{length-take-le, take-take, take_all}
+use Rattle.std.specs.Int.{w32, w64, to_le_bytes}
 use Rattle.algorithm.specs.Table.{no_entry, Log, Server, Table, absent, server, term_at, bake_at, positions, trimmed}
 use Rattle.words.specs.Lists.{nth}
 use Rattle.words.specs.Words.{half, words, bytes}
@@ -17,24 +18,24 @@ use Rattle.table.specs.declared.rows.Row.{Row}
 use Rattle.table.specs.Layout.{row_words, table_bytes, layout, table_in, table_words}
 use Rattle.table.proofs.LayoutLaws.{marks-back}
 use Rattle.table.proofs.MarkLaws.{trimmed-take}
-use Rattle.buffer.specs.Buffer.{Wrote}
-use Rattle.buffer.proofs.WroteLaws.{wrote_none, sized, then}
+use Rattle.buffer.specs.Buffer.{Wrote, Room, Grew}
+use Rattle.buffer.specs.declared.Output.{Output}
+use Rattle.buffer.proofs.WroteLaws.{sized, grown, grown_none, lent}
 use Rattle.image.specs.Contents.{figure_bytes, entry_bytes}
 use Rattle.image.specs.Image.{wide, baked_words, log_words, marks_body, server_body, body_of}
-use Rattle.image.proofs.ContentsLaws.{wide-entry}
 use Rattle.image.proofs.LogLaws.{length-body}
-use Rattle.writer.specs.Writer.{Savable}
 use Rattle.writer.proofs.RowWords.{log-terms}
 
 -- ---- numbers
 
-pub two_bytes : (b b₁ b₂ : List ℕ) (at d e v : ℕ) → Wrote b b₁ at (v % 256 ∷ []) d → Wrote b₁ b₂ d (v / 256 % 256 ∷ []) e → Wrote b b₂ at (half v) e
-two_bytes b b₁ b₂ at d e v w x = then w x
+-- as the library has their bytes
+module _ (o p : Output) (l : List ℕ) (v : ℕ) where
+  pub half-put : l ≡ take 2 (to_le_bytes w64 v) → Grew 2 o p l → Grew 2 o p (half v)
+  half-put e g = rw (← e) g
 
-pub four_bytes : (b b₁ b₂ : List ℕ) (at d e v : ℕ) → Wrote b b₁ at (half v) d → Wrote b₁ b₂ d (half (v / 65536)) e
-    → Wrote b b₂ at (bytes (v ∷ [])) e
-unfolding bytes
-four_bytes b b₁ b₂ at d e v w x = rw (← div-div-eq-div-mul v 65536 256) (then w x)
+  pub number-put : l ≡ to_le_bytes w32 v → Grew (length l) o p l → Grew 4 o p (bytes (v ∷ []))
+  unfolding bytes
+  number-put e g = rw e at g
 
 -- ---- words as they stand in a slice
 
@@ -53,11 +54,13 @@ take-bytes zero w = refl
 take-bytes (suc n) [] = rw past
 take-bytes (suc n) (x ∷ w) = rw (past, take-bytes n w)
 
-pub words-wrote : (b b' t : List ℕ) (at k n r : ℕ) → ((i : ℕ) → get_or t i 0 < 256) → length t ≡ table_bytes
-    → Wrote b b' at (take (4 * k + 4 * n - 4 * k) (drop (4 * k) t)) r → Wrote b b' at (bytes (take n (drop k (words t)))) r
-words-wrote b b' t at k n r byte e w =
+pub words-put : (o p : Output) (t : List ℕ) (k n : ℕ) → ((i : ℕ) → get_or t i 0 < 256) → length t ≡ table_bytes → 4 * (k + n) ≤ table_bytes
+    → Grew (length (take (4 * k + 4 * n - 4 * k) (drop (4 * k) t))) o p (take (4 * k + 4 * n - 4 * k) (drop (4 * k) t))
+    → Grew (4 * n) o p (bytes (take n (drop k (words t))))
+words-put o p t k n byte e m g =
     let long : 4 * k + 4 * n - 4 * k ≡ 4 * n = omega arith in
-    rw (← take-bytes n (drop k (words t)), ← drop-bytes k (words t), bytes-words t table_words e byte, ← long) w
+    let sized : length (take (4 * n) (drop (4 * k) t)) ≡ 4 * n = length-take-le (4 * n) (drop (4 * k) t) (omega (arith, length-drop (4 * k) t)) in
+    rw (← take-bytes n (drop k (words t)), ← drop-bytes k (words t), bytes-words t table_words e byte) (rw (long, sized) at g)
 
 -- the first marks behind the head of a slice
 marks-words : (t : List ℕ) (n : ℕ) → Held t → n ≡ length (trimmed (table_in t).marks) → n ≤ positions
@@ -67,11 +70,12 @@ marks-words t n h e l =
 
 -- ---- a log
 
--- the first p entries are written, each its term and its bake
-pub record Paired (l : Log) (b : List ℕ) (from : ℕ) (b' : List ℕ) (p e : ℕ) : Type 0 where
-  pub long : length b' ≡ length b
-  pub end : e ≡ from + 8 * p
-  pub wrote : Wrote b b' from (bytes (baked_words (take p l))) e
+-- all entries before position k are written, each its term and its bake
+pub record Paired (l : Log) (o p : Output) (k : ℕ) : Type 0 where
+  pub written : ℕ
+  pub next : k ≡ written + 1
+  pub few : written ≤ length l
+  pub grew : Grew (8 * written) o p (bytes (baked_words (take written l)))
 
 entry_more : (l : Log) (p : ℕ) → p < length l
     → bytes (baked_words (take (suc p) l)) ≡ bytes (baked_words (take p l)) ++ bytes ((get_or l p no_entry).term ∷ (get_or l p no_entry).bake ∷ [])
@@ -80,99 +84,116 @@ entry_more [] p h = absurd (omega arith)
 entry_more (e ∷ l) zero h = refl
 entry_more (e ∷ l) (suc p) h = rw (entry_more l p (omega arith))
 
-module _ (l : Log) (b : List ℕ) (from : ℕ) where
-  pub paired_none : from ≤ length b → Paired l b from b 0 from
+module _ (l : Log) (o : Output) where
+  pub paired_none : o.at ≤ length o.buffer.now → Paired l o o 1
   unfolding bytes baked_words
-  paired_none h = record { long = refl; end = omega arith; wrote = wrote_none b from h }
+  paired_none h = record { written = 0; next = refl; few = omega arith; grew = grown_none 0 o h }
 
-  module _ (b₁ : List ℕ) (n p e : ℕ) (many : n ≡ length l) (g : Paired l b from b₁ p e) where
-    pub paired-more : (b₂ b₃ : List ℕ) (T B d f : ℕ) → p < n → T ≡ term_at l (p + 1) → B ≡ bake_at l (p + 1) → Wrote b₁ b₂ e (bytes (T ∷ [])) d
-        → Wrote b₂ b₃ d (bytes (B ∷ [])) f → Paired l b from b₃ (p + 1) f
+  pub paired-all : (p : Output) (n k : ℕ) → n ≡ length l → Paired l o p k → n < k → Grew (8 * length l) o p (bytes (baked_words l))
+  paired-all p n k many g m =
+      let whole : g.written ≡ length l = omega (arith, g.next, g.few) in
+      rw (whole, take_all (length l) l (omega arith)) at g.grew
+
+  module _ (p : Output) (n k : ℕ) (many : n ≡ length l) (g : Paired l o p k) where
+    pub paired-more : (q r : Output) (T B : ℕ) → k ≤ n → T ≡ term_at l k → B ≡ bake_at l k → Grew 4 p q (bytes (T ∷ [])) → Grew 4 q r (bytes (B ∷ []))
+        → Paired l o r (k + 1)
     unfolding nth bytes
-    paired-more b₂ b₃ T B d f h et eb w x =
-        let term : T ≡ (get_or l p no_entry).term = rw add-one at et in
-        let bake : B ≡ (get_or l p no_entry).bake = rw add-one at eb in
+    paired-more q r T B h et eb w x =
+        let i : ℕ = g.written in
+        let term : T ≡ (get_or l i no_entry).term = et ∙ ap (term_at l) (g.next ∙ add-one i) in
+        let bake : B ≡ (get_or l i no_entry).bake = eb ∙ ap (bake_at l) (g.next ∙ add-one i) in
         record {
-          long = sized (then w x) ∙ g.long;
-          end = omega (arith, g.end, w.end, x.end);
-          wrote = rw (add-one, entry_more l p (omega arith), ← term, ← bake) (then g.wrote (then w x));
+          written = suc i;
+          next = omega (arith, g.next);
+          few = omega (arith, g.next);
+          grew = rw (mul-suc, entry_more l i (omega (arith, g.next)), ← term, ← bake) (grown g.grew (grown w x));
         }
 
-    pub paired-all : n ≤ p → Wrote b b₁ from (bytes (baked_words l)) e
-    paired-all h = rw (take_all p l (omega arith)) at g.wrote
+    pub paired-last : (q r : Output) (T B : ℕ) → k ≤ n → n ≤ k → T ≡ term_at l k → B ≡ bake_at l k → Grew 4 p q (bytes (T ∷ [])) → Grew 4 q r (bytes (B ∷ []))
+        → Grew (8 * length l) o r (bytes (baked_words l))
+    paired-last q r T B h m et eb w x = paired-all r n (k + 1) many (paired-more q r T B h et eb w x) (omega arith)
 
--- by the width of its entries
-module _ (w at : ℕ) (l : Log) (b : List ℕ) (room : at + entry_bytes w * length l ≤ length b) where
-  pub narrow-room : (n : ℕ) → w ≡ 0 → n ≡ length l → at + 4 * n ≤ length b
-  narrow-room n z e = rw (z, ← e) at room
-
-  pub wide_room : (w ≡ 0 → ⊥) → at + 8 * length l ≤ length b
-  wide_room z = rw (← wide-entry w z) at room
-
-pub narrow-wrote : (t : List ℕ) (s w n at r : ℕ) (b b' : List ℕ) → Held t → Within t s → w ≡ 0 → n ≡ length (server (table_in t) s).log
-    → Wrote b b' at (bytes (take n (drop (row_words * s + 6) (words t)))) r → Wrote b b' at (bytes (log_words w (server (table_in t) s).log)) r
-narrow-wrote t s w n at r b b' h v z e x = rw z (rw (e, log-terms t s h v) at x)
-
-pub wide-wrote : (w : ℕ) (l : Log) (b b' : List ℕ) (at r : ℕ) → (w ≡ 0 → ⊥) → Wrote b b' at (bytes (baked_words l)) r → Wrote b b' at (bytes (log_words w l)) r
-wide-wrote zero l b b' at r z x = absurd (z refl)
-wide-wrote (suc w) l b b' at r z x = x
+-- by the width of its entries, which is 0 where they are terms alone
+pub narrow-put : (t : List ℕ) (u : Table) (s w n : ℕ) (o p : Output) → Grew (4 * n) o p (bytes (take n (drop (row_words * s + 6) (words t)))) → w ≡ 0
+    → n ≡ length (server u s).log → u ≡ table_in t → Held t → Within (table_in t) s
+    → Grew (entry_bytes w * length (server (table_in t) s).log) o p (bytes (log_words w (server (table_in t) s).log))
+narrow-put t u s w n o p x z e is h v = rw z (rw (e, is, log-terms t s h v) at x)
 
 -- ---- a server
 
-pub figures-wrote : (b b₁ b₂ b₃ b₄ b₅ : List ℕ) (x y z u v : ℕ) (f : Figures) → f.role < 256 → Wrote b b₁ 0 (half f.role) x
-    → Wrote b₁ b₂ x (half f.set) y → Wrote b₂ b₃ y (bytes (f.term.0 ∷ [])) z → Wrote b₃ b₄ z (bytes (f.version.0 ∷ [])) u
-    → Wrote b₄ b₅ u (bytes (f.config.0 ∷ [])) v → Wrote b b₅ 0 (server_body 0 (figured f [])) v
+pub figures-put : (o p₁ p₂ p₃ p₄ p₅ : Output) (f : Figures) → f.role < 256 → Grew 2 o p₁ (half f.role) → Grew 2 p₁ p₂ (half f.set)
+    → Grew 4 p₂ p₃ (bytes (f.term.0 ∷ [])) → Grew 4 p₃ p₄ (bytes (f.version.0 ∷ [])) → Grew 4 p₄ p₅ (bytes (f.config.0 ∷ []))
+    → Grew figure_bytes o p₅ (server_body 0 (figured f []))
 unfolding bytes
-figures-wrote b b₁ b₂ b₃ b₄ b₅ x y z u v f h p q r s w =
+figures-put o p₁ p₂ p₃ p₄ p₅ f h p q r s w =
     let low : f.role % 256 ≡ f.role = omega arith in
     let high : f.role / 256 % 256 ≡ 0 = omega arith in
-    then (then (then (then (rw (low, high) at p) q) r) s) w
+    grown (grown (grown (grown (rw (low, high) at p) q) r) s) w
 
-pub figures-room : (w : ℕ) (b : List ℕ) (s : Server) → length (server_body w s) ≤ length b → figure_bytes ≤ length b
-figures-room w b s h = omega (arith, length-body w s)
+module _ (w : ℕ) (s : Server) (o : Output) (r : Room (length (server_body w s)) o) where
+  pub figures-room : Room figure_bytes o
+  figures-room = omega (arith, r, length-body w s)
 
-pub log-fits : (w d : ℕ) (s : Server) (b b₁ : List ℕ) → d ≡ figure_bytes → length b₁ ≡ length b → length (server_body w s) ≤ length b
-    → d + entry_bytes w * length s.log ≤ length b₁
-log-fits w d s b b₁ z l f = omega (arith, length-body w s)
+  pub log-fits : (p : Output) (l : List ℕ) → Grew figure_bytes o p l → Room (entry_bytes w * length s.log) p
+  log-fits p l g = omega (arith, r, length-body w s, g.wrote.short, sized g.wrote.wrote)
 
-module _ (t : List ℕ) (s : ℕ) (a : Row) (e : a ≡ seen (server (table_in t) s)) where
-  pub role-small : Savable t → a.figures.role < 256
-  role-small h = rw e (h.roles s)
+pub server-put : (t u : Table) (s w : ℕ) (a : Row) (o p q : Output) → a ≡ seen (server u s) → u ≡ t
+    → Grew figure_bytes o p (server_body 0 (figured a.figures [])) → Grew (entry_bytes w * length (server t s).log) p q (bytes (log_words w (server t s).log))
+    → Grew (length (server_body w (server t s))) o q (server_body w (server t s))
+unfolding bytes
+server-put t u s w a o p q e is x y = rw (length-body w (server t s)) (grown (rw (e, is) at x) y)
 
-  pub server-wrote : (b b₁ b₂ : List ℕ) (w d z : ℕ) → Wrote b b₁ 0 (server_body 0 (figured a.figures [])) d
-      → Wrote b₁ b₂ d (bytes (log_words w (server (table_in t) s).log)) z → Wrote b b₂ 0 (server_body w (server (table_in t) s)) z
-  unfolding bytes
-  server-wrote b b₁ b₂ w d z x y = then (rw e at x) y
+-- ---- the marks
 
--- ---- a body
+pub marks-put : (t : List ℕ) (o p : Output) (u : Table) (n : ℕ) → Grew (4 * n) o p (bytes (take n (drop 6 (words t)))) → n ≡ length (trimmed u.marks)
+    → n ≤ positions → u ≡ table_in t → Held t → Grew (length (marks_body (table_in t).marks)) o p (marks_body (table_in t).marks)
+marks-put t o p u n w m l is h =
+    let many : n ≡ length (trimmed (table_in t).marks) = m ∙ ap (λ (x : Table). length (trimmed x.marks)) is in
+    rw (length-bytes (trimmed (table_in t).marks), ← many) (rw (marks-words t n h many l) at w)
 
-marks-body : (t : Table) (e : ℕ) → e < 1 → body_of t e ≡ marks_body t.marks
-marks-body t zero z = refl
-marks-body t (suc e) z = absurd (omega arith)
+pub marks-fit : (ms : List ℕ) (o : Output) (n : ℕ) → n ≡ length (trimmed ms) → Room (length (marks_body ms)) o → Room (4 * n) o
+marks-fit ms o n e r = omega (arith, r, length-bytes (trimmed ms))
 
-server-body : (t : Table) (e W : ℕ) → 1 ≤ e → W ≡ wide t → body_of t e ≡ server_body W (server t e)
-unfolding nth
-server-body t zero W h z = absurd (omega arith)
-server-body t (suc s) W h z = rw z (get_or-map (server_body (wide t)) t.servers s absent)
+-- ---- a body of the table in a slice
 
-pub marks-size : (t : Table) (e n : ℕ) → e < 1 → n ≡ length (trimmed t.marks) → 4 * n ≡ length (body_of t e)
-marks-size t e n z h = rw (marks-body t e z, length-bytes (trimmed t.marks)) (omega arith)
+module _ (b : List ℕ) (t : Table) (is : table_in b ≡ t) (e : ℕ) where
+  its-marks : e < 1 → body_of t e ≡ marks_body (table_in b).marks
+  its-marks l = first e l
+    where
+      first : (e : ℕ) → e < 1 → body_of t e ≡ marks_body (table_in b).marks
+      first zero l = rw is
+      first (suc e) l = absurd (omega arith)
 
-pub server-size : (t : Table) (e W i n : ℕ) → 1 ≤ e → W ≡ wide t → i ≡ entry_bytes W → n ≡ length (server t e).log
-    → figure_bytes + i * n ≡ length (body_of t e)
-server-size t e W i n h z k l = rw (server-body t e W h z, length-body W (server t e), k, l)
+  its-server : (W : ℕ) → 1 ≤ e → W ≡ wide (table_in b) → body_of t e ≡ server_body W (server (table_in b) e)
+  unfolding nth
+  its-server W l z = rw (z, is) (some e l)
+    where
+      some : (e : ℕ) → 1 ≤ e → body_of t e ≡ server_body (wide t) (server t e)
+      some zero l = absurd (omega arith)
+      some (suc s) l = get_or-map (server_body (wide t)) t.servers s absent
 
-module _ (b : List ℕ) (t : Table) (e : ℕ) where
-  pub marks-fit : (n : ℕ) → e < 1 → n ≡ length (trimmed t.marks) → length (body_of t e) ≤ length b → 0 + 4 * n ≤ length b
-  marks-fit n z m h = omega (arith, marks-size t e n z m)
+  pub marks-size : (n : ℕ) → e < 1 → n ≡ length (trimmed (table_in b).marks) → 4 * n ≡ length (body_of t e)
+  marks-size n l m = rw (its-marks l, length-bytes (trimmed (table_in b).marks)) (omega arith)
 
-  module _ (W : ℕ) (some : 1 ≤ e) (z : W ≡ wide t) where
-    pub server-fits : length (body_of t e) ≤ length b → length (server_body W (server t e)) ≤ length b
-    server-fits h = omega (arith, ap length (server-body t e W some z))
+  pub server-size : (W i n : ℕ) → 1 ≤ e → W ≡ wide (table_in b) → i ≡ entry_bytes W → n ≡ length (server (table_in b) e).log
+      → figure_bytes + i * n ≡ length (body_of t e)
+  server-size W i n l z k m = rw (its-server W l z, length-body W (server (table_in b) e), k, m)
 
-    pub server-put : (b' : List ℕ) (r : ℕ) → Wrote b b' 0 (server_body W (server t e)) r → Wrote b b' 0 (body_of t e) r
-    server-put b' r w = rw (server-body t e W some z) w
+  module _ (o : Output) where
+    pub server-room : (W : ℕ) → 1 ≤ e → W ≡ wide (table_in b) → o.at ≡ 0 → length (body_of t e) ≤ length o.buffer.now
+        → Room (length (server_body W (server (table_in b) e))) o
+    server-room W l z first h = omega (arith, h, ap length (its-server W l z))
 
-pub marks-put : (t b b' : List ℕ) (e n r : ℕ) → Savable t → e < 1 → n ≡ length (trimmed (table_in t).marks) → n ≤ positions
-    → Wrote b b' 0 (bytes (take n (drop 6 (words t)))) r → Wrote b b' 0 (body_of (table_in t) e) r
-marks-put t b b' e n r h z m l w = rw (marks-body (table_in t) e z, ← marks-words t n h.held m l) w
+    pub marks-room : e < 1 → o.at ≡ 0 → length (body_of t e) ≤ length o.buffer.now → Room (length (marks_body (table_in b).marks)) o
+    marks-room l first h = omega (arith, h, ap length (its-marks l))
+
+    -- who lent the part finds the body in it
+    module _ (part part' : List ℕ) (p : Output) where
+      pub server-wrote : (W : ℕ) → 1 ≤ e → W ≡ wide (table_in b)
+          → Grew (length (server_body W (server (table_in b) e))) o p (server_body W (server (table_in b) e)) → o.at ≡ 0 → part ≡ o.buffer.now
+          → (o.buffer.ghost_name ≡ p.buffer.ghost_name → part' ≡ p.buffer.now) → Wrote part part' 0 (body_of t e) p.at
+      server-wrote W l z g first is last = rw (its-server W l z) (lent g first is last)
+
+      pub marks-wrote : e < 1 → Grew (length (marks_body (table_in b).marks)) o p (marks_body (table_in b).marks) → o.at ≡ 0 → part ≡ o.buffer.now
+          → (o.buffer.ghost_name ≡ p.buffer.ghost_name → part' ≡ p.buffer.now) → Wrote part part' 0 (body_of t e) p.at
+      marks-wrote l g first is last = rw (its-marks l) (lent g first is last)

@@ -1,21 +1,20 @@
 -- The places of an image's parts, one behind another. Assumes nothing.
 use Prim.Native.Nat.{ℕ, zero, suc, ◌+◌, ◌-◌, ◌*◌, ◌≤◌, ◌<◌}
-use native.Mathlib.Nat.{add_assoc}
+use native.Mathlib.Nat.{add_assoc, mul-suc}
 use native.Mathlib.Numerals.{add-one}
 use native.Mathlib.Omega.{arith}
-use mathlib.Core.Path.{◌≡◌, refl, ap, ◌∙◌}
+use mathlib.Core.Path.{◌≡◌, ap}
 use mathlib.Core.List.{List, [], ◌∷◌, ◌++◌, flatten}
 use lib.ListN.{length, get_or, take, drop, length-append, length-drop}
 use lib.Seq.{take_all}
 use Rattle.algorithm.specs.Table.{Table, absent, count, positions, most_servers}
 use Rattle.words.specs.Words.{half}
-use Rattle.table.specs.Layout.{table_in}
-use Rattle.buffer.specs.Buffer.{Wrote}
-use Rattle.buffer.proofs.WroteLaws.{wrote_none, sized, then, part, part-wrote}
+use Rattle.buffer.specs.Buffer.{text, Wrote, Room, Grew}
+use Rattle.buffer.specs.declared.Output.{Output}
+use Rattle.buffer.proofs.WroteLaws.{sized, exact, grown, grown_none, lent, part, part-wrote}
 use Rattle.image.specs.Contents.{first_body, figure_bytes, entry_bytes}
 use Rattle.image.specs.Image.{wide, opening, server_body, bodies, body_of, contents, image}
-use Rattle.image.proofs.ImageLaws.{flatten-more, flatten-most, length-contents, place, many, length-image}
-use Rattle.writer.specs.Writer.{Savable}
+use Rattle.image.proofs.ImageLaws.{flatten-more, flatten-most, place, many, length-image}
 
 -- ---- one entry more
 
@@ -37,113 +36,112 @@ pub record Placed (t : Table) (e at : ℕ) : Type 0 where
   pub offset : at ≡ place t e
   pub small : at ≤ first_body most_servers + (figure_bytes + entry_bytes 1 * positions) * e
 
-module _ (t : List ℕ) (n : ℕ) (c : n ≡ count (table_in t)) where
-  pub few-servers : Savable t → n ≤ most_servers
-  few-servers h = omega (arith, h.held.shaped.few)
+pub placed-none : (t : Table) (n at : ℕ) → n ≡ count t → n ≤ most_servers → at ≡ first_body n → Placed t 0 at
+unfolding flatten
+placed-none t n at c few f = record { offset = omega arith; small = omega arith }
 
-  pub placed-none : (at : ℕ) → Savable t → at ≡ first_body n → Placed (table_in t) 0 at
-  unfolding flatten
-  placed-none at h f = record { offset = omega arith; small = omega (arith, h.held.shaped.few) }
+-- one body more, and the last one
+module _ (t : Table) (n e at v : ℕ) (c : n ≡ count t) (p : Placed t e at) (l : e ≤ n) (s : v ≡ length (body_of t e)) where
+  next-place : at + v ≡ place t (e + 1)
+  next-place =
+      rw (add-one, flatten-more (server_body (wide t) absent) (bodies t) e (omega (arith, many t)))
+      (omega (arith, p.offset, length-append (flatten (take e (bodies t))) (body_of t e)))
 
-  module _ (e at : ℕ) (p : Placed (table_in t) e at) where
-    pub placed-more : (v : ℕ) → e ≤ n → v ≡ length (body_of (table_in t) e) → v ≤ figure_bytes + entry_bytes 1 * positions → Placed (table_in t) (e + 1) (at + v)
-    placed-more v l s m =
-        let bs = bodies (table_in t) in
-        let longer = flatten-more (server_body (wide (table_in t)) absent) bs e (omega (arith, many (table_in t))) in
-        record {
-          offset =
-              rw (add-one, longer)
-              (omega (arith, p.offset, length-append (flatten (take e bs)) (body_of (table_in t) e)));
-          small = omega (arith, p.small);
-        }
+  pub placed-more : v ≤ figure_bytes + entry_bytes 1 * positions → Placed t (e + 1) (at + v)
+  placed-more m = record { offset = next-place; small = omega (arith, p.small) }
 
-    pub placed-all : e ≤ n + 1 → n < e → at ≡ length (image (table_in t))
-    placed-all l m =
-        let bs = bodies (table_in t) in
-        let all : take e bs ≡ bs = take_all e bs (omega (arith, many (table_in t))) in
-        omega (arith, p.offset, ap (λ (x : List (List ℕ)). length (flatten x)) all, length-image (table_in t))
+  pub placed-last : n ≤ e → at + v ≡ length (image t)
+  placed-last m =
+      let all : take (e + 1) (bodies t) ≡ bodies t = take_all (e + 1) (bodies t) (omega (arith, many t)) in
+      omega (arith, next-place, ap (λ (x : List (List ℕ)). length (flatten x)) all, length-image t)
+
+-- ---- the opening
+
+pub opening-put : (t : Table) (o p q : Output) (l : List ℕ) → l ≡ count t ∷ wide t ∷ t.rule ∷ t.floor ∷ [] → Grew 4 o p (text "SITE")
+    → Grew (length l) p q l → Grew 8 o q (opening t)
+opening-put t o p q l e w x = grown w (rw e at x)
 
 -- ---- the contents
 
 -- the entries of the first e bodies are written
-pub record Entered (t : Table) (b : List ℕ) (from : ℕ) (b' : List ℕ) (e z : ℕ) : Type 0 where
-  pub long : length b' ≡ length b
-  pub end : z ≡ from + 4 * e
-  pub wrote : Wrote b b' from (contents (first_body (count t)) (take e (bodies t))) z
+abbrev pub Entered : Table → Output → Output → ℕ → Type 0
+Entered t o p e = Grew (4 * e) o p (contents (first_body (count t)) (take e (bodies t)))
 
-module _ (t : Table) (b : List ℕ) (from : ℕ) where
-  pub entered-none : from ≤ length b → Entered t b from b 0 from
+module _ (t : Table) (o : Output) where
+  pub entered-none : o.at ≤ length o.buffer.now → Entered t o o 0
   unfolding contents
-  entered-none h = record { long = refl; end = omega arith; wrote = wrote_none b from h }
+  entered-none h = grown_none 0 o h
 
-  module _ (b₁ : List ℕ) (n e end : ℕ) (c : n ≡ count t) (g : Entered t b from b₁ e end) where
-    pub entered-more : (b₂ b₃ : List ℕ) (at v d f : ℕ) → e ≤ n → Placed t e at → v ≡ length (body_of t e) → Wrote b₁ b₂ end (half at) d
-        → Wrote b₂ b₃ d (half v) f → Entered t b from b₃ (e + 1) f
-    entered-more b₂ b₃ at v d f l p s w x =
+  module _ (p : Output) (n e : ℕ) (c : n ≡ count t) (g : Entered t o p e) where
+    pub entered-more : (q r : Output) (at v : ℕ) → e ≤ n → Placed t e at → v ≡ length (body_of t e) → Grew 2 p q (half at) → Grew 2 q r (half v)
+        → Entered t o r (e + 1)
+    entered-more q r at v l f s w x =
         let next = contents-more (server_body (wide t) absent) (first_body (count t)) (bodies t) e (omega (arith, many t)) in
-        record {
-          long = sized (then w x) ∙ g.long;
-          end = omega (arith, g.end, w.end, x.end);
-          wrote = rw (add-one, next, ← p.offset, ← s) (then g.wrote (then w x));
-        }
+        rw (add-one, mul-suc, next, ← f.offset, ← s) (grown g (grown w x))
 
-    pub entered_all : e ≤ n + 1 → n < e → Wrote b b₁ from (contents (first_body (count t)) (bodies t)) end
-    entered_all l m = rw (take_all e (bodies t) (omega (arith, many t))) at g.wrote
+    pub entered-last : (q r : Output) (at v : ℕ) → e ≤ n → n ≤ e → Placed t e at → v ≡ length (body_of t e) → Grew 2 p q (half at) → Grew 2 q r (half v)
+        → Grew (4 * (count t + 1)) o r (contents (first_body (count t)) (bodies t))
+    entered-last q r at v l m f s w x =
+        let last : e ≡ count t = omega arith in
+        rw (last, take_all (count t + 1) (bodies t) (omega (arith, many t))) at (entered-more q r at v l f s w x)
 
 -- ---- the bodies
 
 -- the first e bodies are written
-pub record Bodied (t : Table) (b : List ℕ) (from : ℕ) (b' : List ℕ) (e at : ℕ) : Type 0 where
-  pub long : length b' ≡ length b
-  pub wrote : Wrote b b' from (flatten (take e (bodies t))) at
+abbrev pub Bodied : Table → Output → Output → ℕ → Type 0
+Bodied t o p e = Grew (length (flatten (take e (bodies t)))) o p (flatten (take e (bodies t)))
 
-module _ (t : Table) (b : List ℕ) (from : ℕ) where
-  pub bodied-none : from ≤ length b → Bodied t b from b 0 from
+module _ (t : Table) (o : Output) where
+  pub bodied-none : o.at ≤ length o.buffer.now → Bodied t o o 0
   unfolding flatten
-  bodied-none h = record { long = refl; wrote = wrote_none b from h }
+  bodied-none h = grown_none 0 o h
 
-  module _ (b₁ : List ℕ) (n e at : ℕ) (c : n ≡ count t) (g : Bodied t b from b₁ e at) where
-    pub body-start : at ≤ length b₁
-    body-start = omega (arith, g.wrote.room, g.long)
+  module _ (p : Output) (n e : ℕ) (c : n ≡ count t) (g : Bodied t o p e) (l : e ≤ n) where
+    body-start : p.at ≤ length p.buffer.now
+    body-start = omega (arith, g.wrote.wrote.room, sized g.wrote.wrote)
 
-    pub body-room : e ≤ n → from + length (flatten (bodies t)) ≤ length b → length (body_of t e) ≤ length (take (length b₁ - at) (drop at b₁))
-    body-room l h =
-        rw (part b₁ at body-start)
-        (omega (arith, length-drop at b₁, g.long, g.wrote.end, flatten-most (server_body (wide t) absent) (bodies t) e (omega (arith, many t))))
+    pub body-room : Room (length (flatten (bodies t))) o → length (body_of t e) ≤ length (take (length p.buffer.now - p.at) (drop p.at p.buffer.now))
+    body-room h =
+        rw (part p.buffer.now p.at body-start)
+        (omega (
+          arith,
+          h,
+          length-drop p.at p.buffer.now,
+          sized g.wrote.wrote,
+          g.wrote.wrote.end,
+          flatten-most (server_body (wide t) absent) (bodies t) e (omega (arith, many t)),
+        ))
 
-    pub bodied-more : (ys : List ℕ) (r : ℕ) → e ≤ n → Wrote (take (length b₁ - at) (drop at b₁)) ys 0 (body_of t e) r
-        → Bodied t b from (take at b₁ ++ (ys ++ drop (length b₁ - at) (drop at b₁))) (e + 1) (at + r)
-    bodied-more ys r l w =
-        let next = part-wrote b₁ at body-start ys (body_of t e) r w in
-        record {
-          long = sized next ∙ g.long;
-          wrote =
-              rw (add-one, flatten-more (server_body (wide t) absent) (bodies t) e (omega (arith, many t))) (then g.wrote next);
-        }
+    -- body e is written at the start of the part, and q is the output then
+    module _ (ys : List ℕ) (r : ℕ) (w : Wrote (take (length p.buffer.now - p.at) (drop p.at p.buffer.now)) ys 0 (body_of t e) r) (q : Output)
+        (same : q.buffer.ghost_name ≡ p.buffer.ghost_name)
+        (put : q.buffer.now ≡ take p.at p.buffer.now ++ (ys ++ drop (length p.buffer.now - p.at) (drop p.at p.buffer.now))) (end : q.at ≡ p.at + r) where
+      pub bodied-more : Bodied t o q (e + 1)
+      bodied-more =
+          let next : Wrote p.buffer.now q.buffer.now p.at (body_of t e) q.at = rw (put, end) (part-wrote p.buffer.now p.at body-start ys (body_of t e) r w) in
+          let more = flatten-more (server_body (wide t) absent) (bodies t) e (omega (arith, many t)) in
+          rw (add-one, more, length-append (flatten (take e (bodies t))) (body_of t e)) (grown g (record { same = same; wrote = exact next }))
 
-    pub bodied-all : e ≤ n + 1 → n < e → Wrote b b₁ from (flatten (bodies t)) at
-    bodied-all l m = rw (take_all e (bodies t) (omega (arith, many t))) at g.wrote
+      pub bodied-last : n ≤ e → Grew (length (flatten (bodies t))) o q (flatten (bodies t))
+      bodied-last m = rw (take_all (e + 1) (bodies t) (omega (arith, many t))) at bodied-more
 
 -- ---- the image
 
-pub opening-wrote : (t : Table) (b b₁ b₂ : List ℕ) (n W R F c d : ℕ) → n ≡ count t → W ≡ wide t → R ≡ t.rule → F ≡ t.floor
-    → Wrote b b₁ 0 (83 ∷ 73 ∷ 84 ∷ 69 ∷ []) c → Wrote b₁ b₂ c (n ∷ W ∷ R ∷ F ∷ []) d → Wrote b b₂ 0 (opening t) d
-opening-wrote t b b₁ b₂ n W R F c d en ew er ef w x = rw (en, ew, er, ef) at (then w x)
-
-module _ (t : Table) (b : List ℕ) (h : length (image t) ≤ length b) where
-  pub opening-room : 8 ≤ length b
+module _ (t : Table) (o : Output) (h : length (image t) ≤ length o.buffer.now) (first : o.at ≡ 0) where
+  pub opening-room : Room 8 o
   opening-room = omega (arith, length-image t)
 
-  module _ (b₁ : List ℕ) (c : ℕ) (w : Wrote b b₁ 0 (opening t) c) where
-    pub contents-room : c + 4 * (count t + 1) ≤ length b₁
-    contents-room = omega (arith, length-image t, w.end, sized w)
+  module _ (p : Output) (g : Grew 8 o p (opening t)) where
+    pub contents-room : Room (4 * (count t + 1)) p
+    contents-room = omega (arith, length-image t, g.wrote.short, sized g.wrote.wrote)
 
-    pub bodies-room : (b₂ : List ℕ) (d : ℕ) → Wrote b₁ b₂ c (contents (first_body (count t)) (bodies t)) d
-        → d + length (flatten (bodies t)) ≤ length b₂
-    bodies-room b₂ d x =
-        omega (arith, length-image t, w.end, sized w, x.end, sized x, length-contents (first_body (count t)) (bodies t), many t)
+    module _ (q : Output) (f : Grew (4 * (count t + 1)) p q (contents (first_body (count t)) (bodies t))) where
+      pub bodies-room : Room (length (flatten (bodies t))) q
+      bodies-room =
+          omega (arith, length-image t, g.wrote.short, sized g.wrote.wrote, f.wrote.short, sized f.wrote.wrote, many t)
 
-pub image-wrote : (t : Table) (b b₁ b₂ b₃ : List ℕ) (c d e : ℕ) → Wrote b b₁ 0 (opening t) c
-    → Wrote b₁ b₂ c (contents (first_body (count t)) (bodies t)) d → Wrote b₂ b₃ d (flatten (bodies t)) e → Wrote b b₃ 0 (image t) e
+pub image-wrote : (t : Table) (b b' : List ℕ) (o p q r : Output) → Grew 8 o p (opening t)
+    → Grew (4 * (count t + 1)) p q (contents (first_body (count t)) (bodies t)) → Grew (length (flatten (bodies t))) q r (flatten (bodies t))
+    → o.at ≡ 0 → b ≡ o.buffer.now → (o.buffer.ghost_name ≡ r.buffer.ghost_name → b' ≡ r.buffer.now) → Wrote b b' 0 (image t) r.at
 unfolding image
-image-wrote t b b₁ b₂ b₃ c d e w x y = then (then w x) y
+image-wrote t b b' o p q r f g h first is last = lent (grown (grown f g) h) first is last

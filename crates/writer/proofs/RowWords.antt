@@ -1,27 +1,27 @@
 -- The terms and the bakes of a server as they stand in a slice, and whether all bakes are 0. Assumes nothing.
-use Prim.Native.Nat.{ℕ, zero, suc, ◌+◌, ◌*◌, ◌≤◌, ◌<◌}
+use Prim.Native.Nat.{ℕ, zero, suc, ◌+◌, ◌*◌, ◌≤◌}
 use native.Mathlib.Numerals.{add-one}
 use native.Mathlib.Omega.{arith}
-use mathlib.Core.Bool.{Bool, true, false, ◌&&◌}
+use mathlib.Core.Bool.{Bool, true, ◌&&◌}
 use mathlib.Core.List.{List, [], ◌∷◌, ◌++◌}
-use mathlib.Core.Path.{◌≡◌, refl, sym, ◌∙◌}
+use mathlib.Core.Path.{◌≡◌, refl, ap, sym, ◌∙◌}
 use lib.Dec.{eqb, leb-zero}
-use lib.ListN.{length, take, drop}
+use lib.ListN.{length, get_or, take, drop}
 use lib.Seq.{drop-drop, drop_at, take_all}
 use borrow.Author.Tests.{lt-leb, ne_eqb}
 use Rattle.words.specs.Lists.{nth, every, between, part}
 use Rattle.words.specs.Words.{words}
 use Rattle.words.proofs.Lists.{every_more}
 use Rattle.algorithm.specs.Table.{Server, Table, absent, count, server, positions}
-use Rattle.table.specs.Layout.{row_words, table_bytes, padded, terms, bakes, row, table_in}
+use Rattle.table.specs.Layout.{row_words, padded, terms, bakes, row, table_in}
 use Rattle.table.specs.Slice.{Held, Within}
 use Rattle.table.proofs.LayoutLaws.{log-room, row-terms, row-bakes}
 use Rattle.table.proofs.HeldLaws.{its-room, frame, open_row}
-use Rattle.image.specs.Image.{unbaked, wide}
+use Rattle.image.specs.Image.{unbaked}
 
 -- ---- behind a server's figures
 
-module _ (t : List ℕ) (s : ℕ) (h : Held t) (w : Within t s) where
+module _ (t : List ℕ) (s : ℕ) (h : Held t) (w : Within (table_in t) s) where
   abbrev a : Server
   a = server (table_in t) s
 
@@ -42,13 +42,6 @@ module _ (t : List ℕ) (s : ℕ) (h : Held t) (w : Within t s) where
       let after = (frame h w).after in
       rw (row_from (6 + positions), row-bakes a after) (log-room (λ e. e.bake) a.log after (its-room s h).short)
 
-  -- both stand in the slice
-  pub terms-there : (n : ℕ) → n ≡ length a.log → 4 * (row_words * s + 6 + n) ≤ table_bytes
-  terms-there n e = omega (arith, w.known, h.shaped.few, (its-room s h).short)
-
-  pub bakes-there : (n : ℕ) → n ≡ length a.log → 4 * (row_words * s + (6 + positions) + n) ≤ length t
-  bakes-there n e = omega (arith, w.known, h.shaped.few, h.sized, (its-room s h).short)
-
   -- ---- whether its bakes are 0
 
   pub bakes-tell : (n : ℕ) (r : Bool) → n ≡ length a.log → r ≡ every (between 0 0) (part (words t) (row_words * s + (6 + positions)) n) → r ≡ unbaked a
@@ -65,27 +58,26 @@ module _ (t : List ℕ) (s : ℕ) (h : Held t) (w : Within t s) where
 
 -- ---- all servers
 
--- the bakes of the first k servers are tested, and ok tells whether all are 0
-pub record Bare (t : Table) (k : ℕ) (ok : Bool) : Type 0 where
-  pub tells : ok ≡ every unbaked (take k t.servers)
+-- the bakes of all servers before s are tested, and ok tells whether all are 0
+pub record Bare (t : Table) (s : ℕ) (ok : Bool) : Type 0 where
+  pub tested : ℕ
+  pub next : s ≡ tested + 1
+  pub tells : ok ≡ every unbaked (take tested t.servers)
 
-module _ (t : Table) where
-  pub bare-none : Bare t 0 true
-  unfolding every
-  bare-none = record { tells = refl }
+pub bare-none : (t : Table) → Bare t 1 true
+unfolding every
+bare-none t = record { tested = 0; next = refl; tells = refl }
 
-  module _ (n k : ℕ) (ok : Bool) (many : n ≡ count t) (g : Bare t k ok) where
-    pub bare-more : (r : Bool) → k < n → r ≡ unbaked (server t (k + 1)) → Bare t (k + 1) (ok && r)
-    unfolding nth
-    bare-more r l e = record { tells = rw (g.tells, e, add-one) (sym (every_more unbaked t.servers absent k (omega arith))) }
+module _ (t : Table) (n s : ℕ) (ok : Bool) (g : Bare t s ok) (l : s ≤ n) (many : n ≡ count t) (r : Bool) (e : r ≡ unbaked (server t s)) where
+  pub bare-more : Bare t (s + 1) (ok && r)
+  unfolding nth
+  bare-more =
+      let here : r ≡ unbaked (get_or t.servers g.tested absent) = e ∙ ap (λ (i : ℕ). unbaked (server t i)) (g.next ∙ add-one g.tested) in
+      record {
+        tested = suc g.tested;
+        next = omega (arith, g.next);
+        tells = rw (g.tells, here) (sym (every_more unbaked t.servers absent g.tested (omega (arith, g.next))));
+      }
 
-    all_tested : n ≤ k → ok ≡ every unbaked t.servers
-    all_tested l = rw (take_all k t.servers (omega arith)) at g.tells
-
-    pub all-bare : n ≤ k → ok ≡ true → 0 ≡ wide t
-    unfolding wide
-    all-bare l e = rw (← all_tested l, e)
-
-    pub some-baked : n ≤ k → ok ≡ false → 1 ≡ wide t
-    unfolding wide
-    some-baked l e = rw (← all_tested l, e)
+  pub bare-last : n ≤ s → (ok && r) ≡ every unbaked t.servers
+  bare-last m = rw (take_all bare-more.tested t.servers (omega (arith, bare-more.next))) at bare-more.tells

@@ -2,22 +2,27 @@
 use Prim.Native.Nat.{ℕ, zero, suc, ◌≤◌, ◌<◌}
 use native.Mathlib.Nat.{zero-add}
 use native.Mathlib.Omega.{arith}
-use mathlib.Core.Path.{◌≡◌, sym, ◌∙◌}
+use mathlib.Core.Path.{◌≡◌, refl, ap, sym, ◌∙◌}
 use mathlib.Core.Bool.{Bool, true, false, not}
-use mathlib.Core.List.{List, [], ◌∷◌}
+use mathlib.Core.List.{List, [], ◌∷◌, ◌++◌}
 use mathlib.Core.Logic.{⊎_elim}
-use lib.ListN.{length}
-use borrow.Author.Tests.{lt-ltb, le-ltb, eq-eqb, ne_eqb, not-false}
+use lib.ListN.{length, drop}
+use borrow.Author.Tests.{le-ltb, not-false}
 use Rattle.words.proofs.Tests.{Passes}
 use Rattle.algorithm.specs.Table.{Server, absent, sound_server}
 use Rattle.words.specs.Lists.{nth, every}
 use Rattle.words.specs.Refusal.{first}
+use Rattle.words.proofs.RefusalLaws.{given-each}
+use Rattle.std.specs.Prelude.{Ok, Err}
+use Rattle.algorithm.specs.declared.Refused.{Refused}
+use Rattle.algorithm.specs.Run.{told, answer_of}
 use Rattle.words.proofs.Lists.{every-cons}
 use Rattle.algorithm.proofs.Sound.{server-sound, table-sound}
 use Rattle.table.specs.Layout.{table_in, whole}
 use Rattle.whole.proofs.Determined.{whole-held, whole-sound}
 use Rattle.buffer.specs.Buffer.{Wrote}
-use Rattle.writer.specs.Writer.{Savable, image_of, write_reply, WriteAnswer}
+use Rattle.reader.proofs.ReplyLaws.{Told}
+use Rattle.writer.specs.Writer.{Savable, image_of, writer_refusals, write_reply, write_result, write_bytes, WriteAnswer}
 
 -- ---- a whole table
 
@@ -41,30 +46,32 @@ savable b w e h =
       floor = omega (arith, sound.floor);
     }
 
--- ---- the answer
+-- ---- the buffer
 
-module _ (slice buffer : List ℕ) (e : ℕ) where
-  refused : (k : ℕ) → (k ≡ 0 → ⊥) → k ≡ write_reply slice buffer → WriteAnswer slice buffer e k buffer e
-  refused k h r =
-      let other = ne_eqb (write_reply slice buffer) 0 (λ z. h (r ∙ z)) in
-      record { reply = r; bytes = rw other; end = rw other }
+pub written : (slice buffer buffer' : List ℕ) (r : ℕ) → Wrote buffer buffer' 0 (image_of slice) r
+    → (r ≡ length (image_of slice)) × (buffer' ≡ image_of slice ++ drop (length (image_of slice)) buffer)
+written slice buffer buffer' r w =
+    let all : r ≡ length (image_of slice) = w.end ∙ zero-add (length (image_of slice)) in
+    (all, w.bytes ∙ rw all)
 
-  module _ (w : Bool) (ew : w ≡ whole slice) where
-    pub no_table : not w ≡ true → WriteAnswer slice buffer e 1 buffer e
-    unfolding write_reply first
-    no_table h = refused 1 (omega arith) (rw (← ew, h))
+pub written-reply : (slice buffer : List ℕ) → whole slice ≡ true → length (image_of slice) ≤ length buffer → 0 ≡ write_reply slice buffer
+unfolding write_reply first
+written-reply slice buffer h l = rw (h, le-ltb (length buffer) (length (image_of slice)) l)
 
-    module _ (hw : not w ≡ false) (n : ℕ) (en : n ≡ length (image_of slice)) where
-      pub no_room : length buffer < n → WriteAnswer slice buffer e 35 buffer e
-      unfolding write_reply first
-      no_room l = refused 35 (omega arith) (rw (← ew, hw, ← en, lt-ltb (length buffer) n l))
+-- ---- what is answered, as a result or as a number and an end
 
-      pub written-reply : n ≤ length buffer → 0 ≡ write_reply slice buffer
-      unfolding write_reply first
-      written-reply l = rw (← ew, hw, ← en, le-ltb (length buffer) n l)
+write-told : (slice buffer : List ℕ) → (answer_of (write_result slice buffer)).number ≡ write_reply slice buffer
+unfolding write_reply
+write-told slice buffer = given-each Told (writer_refusals slice buffer) (λ z. refl) (λ _ z. refl, (λ _ z. refl, tt)) (length (image_of slice))
 
-      pub written : (buffer' : List ℕ) (r : ℕ) → n ≤ length buffer → Wrote buffer buffer' 0 (image_of slice) r → WriteAnswer slice buffer e 0 buffer' r
-      written buffer' r l v =
-          let done = eq-eqb (write_reply slice buffer) 0 (sym (written-reply l)) in
-          let all : r ≡ length (image_of slice) = v.end ∙ zero-add (length (image_of slice)) in
-          record { reply = written-reply l; bytes = rw done (v.bytes ∙ rw all); end = rw done all }
+module _ (slice buffer buffer' : List ℕ) (e : ℕ) where
+  pub answered-ok : (place : ℕ) → Ok place ≡ write_result slice buffer → buffer' ≡ write_bytes slice buffer → WriteAnswer slice buffer e 0 buffer' place
+  answered-ok place h b =
+      let reply : 0 ≡ write_reply slice buffer = ap (λ r. (answer_of r).number) h ∙ write-told slice buffer in
+      record { reply = reply; bytes = b; end = grind arith }
+
+  pub answered-err : (n : ℕ) (r : Refused) → n ≡ (told r).number → Err r ≡ write_result slice buffer → buffer' ≡ write_bytes slice buffer
+      → WriteAnswer slice buffer e n buffer' e
+  answered-err n r k h b =
+      let reply : n ≡ write_reply slice buffer = k ∙ ap (λ r. (answer_of r).number) h ∙ write-told slice buffer in
+      record { reply = reply; bytes = b; end = grind arith }

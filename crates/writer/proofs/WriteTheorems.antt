@@ -76,7 +76,7 @@ module _ {im slice b : List ℕ} {e z : ℕ} (byte : (i : ℕ) → get_or im i 0
       let long : length (image_of b) ≡ length (image (read_table im)) = ap (λ (t : Table). length (image t)) table in
       let least = image-least im slice (sym a.reply) byte in
       let fits : length (image_of b) ≤ length buffer = omega (arith, ends) in
-      let reply = written-reply b buffer d true (sym (read_whole im slice e 0 b z a refl)) refl (length (image_of b)) refl fits in
+      let reply = written-reply b buffer (read_whole im slice e 0 b z a refl) fits in
       let done = eq-eqb (write_reply b buffer) 0 (sym reply) in
       let bytes : buffer' ≡ image_of b ++ drop (length (image_of b)) buffer = w.bytes ∙ rw done in
       let end : z' ≡ length (image_of b) = w.end ∙ rw done in

@@ -1,6 +1,8 @@
 -- The writer: its refusals, and what it gives where none holds. Assumes nothing.
-use Rattle.std.specs.Prelude.{ℕ, ◌<◌, not, ◌≡◌, List, [], ◌∷◌, ◌++◌, ltb, length, drop}
-use Rattle.words.specs.Refusal.{Refusal, refuse, first, unless_refused}
+use Rattle.std.specs.Prelude.{ℕ, ◌<◌, not, ◌≡◌, List, [], ◌∷◌, ◌++◌, ltb, length, drop, Result}
+use Rattle.words.specs.Refusal.{nothing, Refusal, refuse, first, answer, unless_refused}
+use Rattle.algorithm.specs.declared.Refused.{Refused}
+use Rattle.algorithm.specs.Run.{result_of}
 use Rattle.algorithm.specs.Table.{server}
 use Rattle.table.specs.Layout.{table_in, whole}
 use Rattle.table.specs.Slice.{Held}
@@ -17,6 +19,10 @@ writer_refusals slice buffer = refuse 1 (not (whole slice)) ∷ refuse 35 (ltb (
 -- the number of the first that holds, or 0: written
 unfoldable pub write_reply : List ℕ → List ℕ → ℕ
 write_reply slice buffer = first (writer_refusals slice buffer)
+
+-- what is answered: the refusal with that number, or where the image ends
+abbrev pub write_result : List ℕ → List ℕ → Result ℕ Refused
+write_result slice buffer = result_of (answer (write_reply slice buffer) nothing) (length (image_of slice))
 
 -- the buffer afterwards: it begins with the image and is as it was behind it; refused, it is as it was
 abbrev pub write_bytes : List ℕ → List ℕ → List ℕ

@@ -5,94 +5,75 @@
 ghost use Rattle.std.specs.Prelude.{◌≡◌, ◌+◌, ◌*◌, ◌≤◌, length};
 ghost use mathlib.Core.List.{flatten};
 ghost use Rattle.algorithm.specs.Table.{count};
-ghost use Rattle.table.specs.Layout.{table_in};
-ghost use Rattle.buffer.specs.Buffer.{Wrote};
+ghost use Rattle.buffer.specs.Buffer.{Wrote, Room, Grew};
 ghost use Rattle.image.specs.Contents.{first_body};
-ghost use Rattle.image.specs.Image.{wide, opening, bodies, contents};
-ghost use Rattle.writer.specs.Writer.{Savable, image_of, WriteAnswer};
+ghost use Rattle.image.specs.Image.{opening, bodies, contents, image};
+ghost use Rattle.writer.specs.Writer.{Savable, image_of, write_result, write_bytes};
 
-use crate::bodies::{put_body, put_half, size_of, width_of};
-use buffer::put_word;
+use crate::bodies::put_half;
+use crate::saved::Saved;
+use algorithm::Refused;
+use buffer::Output;
 use image::contents::first_body;
-use table::rows::{count_of, floor_of, rule_of};
 use whole::is_whole;
 
 mod bodies;
+mod saved;
 
 // The length of the image.
-fn image_length(t: &[u8], width: u8) -> usize
-    requires savable { Savable t.now }
-    requires width_value { width ≡ wide (table_in t.now) }
-    ensures { result ≡ length (image_of t.now) }
+fn image_length(t: &Saved<'_>) -> usize
+    ensures { result ≡ length (image t.now) }
 {
-    let n = count_of(t) as usize;
+    let n = t.count();
     let mut at = first_body(n);
-    let mut e: usize = 0;
-    while e <= n {
-        at += size_of(t, e, width);
-        e += 1;
+    for e in 0..=n {
+        at += t.size_of(e);
     }
     at
 }
 
-fn put_opening(buffer: &mut [u8], t: &[u8], width: u8) -> usize
-    requires savable { Savable t.now }
-    requires width_value { width ≡ wide (table_in t.now) }
-    requires in_bounds { 8 ≤ length buffer.old }
-    ensures { Wrote buffer.old buffer.new 0 (opening (table_in t.now)) result }
+fn put_opening(out: &mut Output<'_>, t: &Saved<'_>)
+    requires { Room 8 out.old }
+    ensures { Grew 8 out.old out.new (opening t.now) }
 {
-    let figures = [count_of(t), width, rule_of(t) as u8, floor_of(t) as u8];
-    let end = put_word(buffer, 0, b"SITE");
-    put_word(buffer, end, &figures)
+    out.put_word(b"SITE");
+    out.put_word(&t.figures());
 }
 
 // For each body its entry: its offset, which is where the one before it ends, and its length.
-fn put_contents(buffer: &mut [u8], from: usize, t: &[u8], width: u8) -> usize
-    requires savable { Savable t.now }
-    requires width_value { width ≡ wide (table_in t.now) }
-    requires t_in_bounds { from + 4 * (count (table_in t.now) + 1) ≤ length buffer.old }
-    ensures { Wrote buffer.old buffer.new from (contents (first_body (count (table_in t.now))) (bodies (table_in t.now))) result }
+fn put_contents(out: &mut Output<'_>, t: &Saved<'_>)
+    requires { Room (4 * (count t.now + 1)) out.old }
+    ensures { Grew (4 * (count t.now + 1)) out.old out.new (contents (first_body (count t.now)) (bodies t.now)) }
 {
-    let n = count_of(t) as usize;
-    let mut end = from;
+    let n = t.count();
     let mut at = first_body(n);
-    let mut e: usize = 0;
-    while e <= n {
-        let size = size_of(t, e, width);
-        end = put_half(buffer, end, at);
-        end = put_half(buffer, end, size);
+    for e in 0..=n {
+        let size = t.size_of(e);
+        put_half(out, at);
+        put_half(out, size);
         at += size;
-        e += 1;
     }
-    end
 }
 
 // The bodies one behind another: who writes a body is lent the buffer from there on, and sees nothing before it.
-fn put_bodies(buffer: &mut [u8], from: usize, t: &[u8], width: u8) -> usize
-    requires savable { Savable t.now }
-    requires width_value { width ≡ wide (table_in t.now) }
-    requires t_in_bounds { from + length (flatten (bodies (table_in t.now))) ≤ length buffer.old }
-    ensures { Wrote buffer.old buffer.new from (flatten (bodies (table_in t.now))) result }
+fn put_bodies(out: &mut Output<'_>, t: &Saved<'_>)
+    requires { Room (length (flatten (bodies t.now))) out.old }
+    ensures { Grew (length (flatten (bodies t.now))) out.old out.new (flatten (bodies t.now)) }
 {
-    let n = count_of(t) as usize;
-    let mut at = from;
-    let mut e: usize = 0;
-    while e <= n {
-        at += put_body(&mut buffer[at..], t, e, width);
-        e += 1;
+    for e in 0..=t.count() {
+        out.at += t.put_body(&mut out.buffer[out.at..], e);
     }
-    at
 }
 
-fn put_parts(buffer: &mut [u8], t: &[u8], width: u8) -> usize
-    requires savable { Savable t.now }
-    requires width_value { width ≡ wide (table_in t.now) }
-    requires t_in_bounds { length (image_of t.now) ≤ length buffer.old }
-    ensures { Wrote buffer.old buffer.new 0 (image_of t.now) result }
+fn put_parts(buffer: &mut [u8], t: &Saved<'_>) -> usize
+    requires { length (image t.now) ≤ length buffer.old }
+    ensures { Wrote buffer.old buffer.new 0 (image t.now) result }
 {
-    let end = put_opening(buffer, t, width);
-    let end = put_contents(buffer, end, t, width);
-    put_bodies(buffer, end, t, width)
+    let mut out = Output { buffer, at: 0 };
+    put_opening(&mut out, t);
+    put_contents(&mut out, t);
+    put_bodies(&mut out, t);
+    out.at
 }
 
 // The image, into a buffer that has room for it.
@@ -101,21 +82,21 @@ pub fn put_image(buffer: &mut [u8], t: &[u8]) -> usize
     requires t_in_bounds { length (image_of t.now) ≤ length buffer.old }
     ensures { Wrote buffer.old buffer.new 0 (image_of t.now) result }
 {
-    let width = width_of(t);
-    put_parts(buffer, t, width)
+    put_parts(buffer, &Saved::of(t))
 }
 
-// Writes the image of a table into a buffer, and puts into `end` where it ends. Refused, it touches neither.
-pub fn write(table: &[u8], buffer: &mut [u8], end: &mut u64) -> u32
-    ensures { WriteAnswer table.now buffer.old end.old result buffer.new end.new }
+// Writes the image of a table into a buffer, and tells where it ends. Refused, it does not touch the buffer.
+#[tactic(auto, using(crate::proofs::WriteLaws::savable, crate::proofs::WriteLaws::written), unfolding(crate::specs::Writer::write_reply, words::specs::Refusal::first))]
+pub fn write(table: &[u8], buffer: &mut [u8]) -> Result<usize, Refused>
+    ensures reply { result ≡ write_result table.now buffer.old }
+    ensures bytes { buffer.new ≡ write_bytes table.now buffer.old }
 {
     if !is_whole(table) {
-        return 1;
+        return Err(Refused::Broken);
     }
-    let width = width_of(table);
-    if buffer.len() < image_length(table, width) {
-        return 35;
+    let saved = Saved::of(table);
+    if buffer.len() < image_length(&saved) {
+        return Err(Refused::NoRoom);
     }
-    *end = put_parts(buffer, table, width) as u64;
-    0
+    Ok(put_parts(buffer, &saved))
 }

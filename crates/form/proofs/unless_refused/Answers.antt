@@ -3,8 +3,5 @@ use borrow.Author.Rules.{rules}
 use Rattle.form.proofs.FormLaws.{refused-form, asked-form}
 use Rattle.form.proofs.unless_refused.Goals as goal
 
-pub returns-then-k-ne0 : goal.returns-then-k-ne0
-returns-then-k-ne0 c = search (rules, refused-form)
-
 pub returns : goal.returns
-returns c = search (rules, asked-form)
+returns c = search (rules, refused-form, asked-form)

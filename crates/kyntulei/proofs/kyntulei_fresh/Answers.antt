@@ -3,8 +3,8 @@ use borrow.Author.Rules.{rules}
 use Rattle.kyntulei.proofs.FreshLaws.{refused, fill-sized, fill-few, count_fits, set-fits, rule_fits, floor-fits, filled}
 use Rattle.kyntulei.proofs.kyntulei_fresh.Goals as goal
 
-pub returns-then-number-ne0 : goal.returns-then-number-ne0
-returns-then-number-ne0 c = search (rules, refused)
+pub returns-in-Err : goal.returns-in-Err
+returns-in-Err c = search (rules, refused)
 
 pub overflow_cast-n : goal.overflow_cast-n
 overflow_cast-n c = search (rules, count_fits)
@@ -21,5 +21,5 @@ overflow_cast-floor c = search (rules, floor-fits)
 pub fill_fresh-requires : goal.fill_fresh-requires
 fill_fresh-requires c = (search (rules, fill-sized), search (rules, fill-few))
 
-pub returns : goal.returns
-returns c = search (rules, filled)
+pub returns-in-Ok : goal.returns-in-Ok
+returns-in-Ok c = search (rules, filled)

@@ -9,7 +9,7 @@ run-requires c = search (rules, ready)
 
 pub returns-then-is_whole : goal.returns-then-is_whole
 returns-then-is_whole c = run-answer _ _ c.is_whole.ensures _ _ _ _ _ _
-    (λ i. (c.slice_known-then-is_whole-1.given i).fits)
+    (λ i. (c.type_inv.table i).fits)
     c.if-is_whole.true
     c.run.ensures
     refl

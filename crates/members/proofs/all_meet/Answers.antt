@@ -8,6 +8,3 @@ pub least_shared-least-requires : goal.least_shared-least-requires
 least_shared-least-requires c = let a = c.args.a in
     let b = c.args.b in
     omega (arith, ones_pos a (omega arith), ones-le 16 a (omega arith), ones_pos b (omega arith), ones-le 16 b (omega arith))
-
-pub returns : goal.returns
-returns c = rw c.least_shared-least.ensures

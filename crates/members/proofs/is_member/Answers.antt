@@ -2,9 +2,8 @@
 use mathlib.Core.Path.{sym, ap}
 use Prim.Native.Nat.{ℕ}
 use native.Mathlib.Omega.{arith}
-use borrow.Author.Tests.{ltb-false}
 use Rattle.members.specs.Members.{member}
-use Rattle.members.proofs.Masks.{member-above, member-pred}
+use Rattle.members.proofs.Masks.{member-above}
 use Rattle.members.proofs.is_member.Goals as goal
 use Rattle.members.proofs.is_member.Goals.{then-s-eq0-via-then-s-eq0, then-s-eq0-via-else-s-eq0+then-s-gt16}
 
@@ -14,9 +13,3 @@ returns-then-s-eq0 c =
       | then-s-eq0-via-then-s-eq0 w ↦ ap (λ (s : ℕ). member s c.args.m) (sym w.if-s-eq0.true)
       | then-s-eq0-via-else-s-eq0+then-s-gt16 w ↦ sym (member-above 16 c.args.s (omega arith) (omega arith))
     ]
-
-pub overflow_shr-result : goal.overflow_shr-result
-overflow_shr-result c = omega (arith, ltb-false)
-
-pub returns : goal.returns
-returns c = member-pred c.args.s c.args.m (omega arith)

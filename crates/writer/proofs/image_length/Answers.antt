@@ -1,13 +1,13 @@
 -- `writer::image_length` meets its contract. Assumes nothing.
 use borrow.Author.Rules.{rules}
-use Rattle.writer.proofs.PlaceLaws.{few-servers, placed-none, placed-more, placed-all}
+use Rattle.writer.proofs.PlaceLaws.{placed-none, placed-more, placed-last}
 use Rattle.writer.proofs.image_length.Goals as goal
 
 pub loop-e-init : goal.loop-e-init
-loop-e-init c = (search rules, search (rules, few-servers), search (rules, placed-none))
+loop-e-init c = search (rules, placed-none)
 
 pub loop-e-preserved : goal.loop-e-preserved
-loop-e-preserved c = (search rules, search rules, search (rules, placed-more))
+loop-e-preserved c = search (rules, placed-more)
 
-pub returns : goal.returns
-returns c = search (rules, placed-all)
+pub returns-2 : goal.returns-2
+returns-2 c = search (rules, placed-last)

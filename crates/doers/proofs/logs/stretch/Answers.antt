@@ -1,25 +1,24 @@
 -- `doers::logs::stretch` meets its contract. Assumes nothing.
+use native.Mathlib.Omega.{arith}
 use borrow.Author.Rules.{rules}
-use Rattle.doers.proofs.StretchLaws.{not-shorter, copying-none, still-within, copying-room, copying-more, copying-count, copying-all}
+use Rattle.doers.proofs.StretchLaws.{not-shorter, copying-none, copying-room, copying-more, copying-count, copying-all}
 use Rattle.doers.proofs.logs.stretch.Goals as goal
 
-pub overflow_sub-length_of : goal.overflow_sub-length_of
-overflow_sub-length_of c = search (rules, not-shorter)
+pub overflow_sub-left : goal.overflow_sub-left
+overflow_sub-left c = search (rules, not-shorter)
 
-pub loop-k-init : goal.loop-k-init
-loop-k-init c = (search rules, search (rules, copying-none))
-
-pub fetch-requires-clause-within : goal.fetch-requires-clause-within
-fetch-requires-clause-within c = search (rules, still-within)
-
-pub fetch-requires-clause-within_2 : goal.fetch-requires-clause-within_2
-fetch-requires-clause-within_2 c = search (rules, still-within)
+pub loop-init : goal.loop-init
+loop-init c = search (rules, copying-none)
 
 pub fetch-requires-clause-i_len_bound : goal.fetch-requires-clause-i_len_bound
 fetch-requires-clause-i_len_bound c = search (rules, copying-room)
 
-pub loop-k-preserved : goal.loop-k-preserved
-loop-k-preserved c = (search rules, search (rules, copying-more))
+pub loop-preserved : goal.loop-preserved
+loop-preserved c =
+    copying-more _ _ _ c.requires.within c.requires.j_value _ _ _ _ c.min-n.ensures (cc) (cc) _ _ c.loop.invariant _ (omega arith) c.fetch.ensures
 
 pub returns : goal.returns
-returns c = (search (rules, copying-count), search (rules, copying-all))
+returns c = (
+  search (rules, copying-count),
+  copying-all _ _ _ c.requires.within c.requires.j_value _ _ _ _ c.min-n.ensures (cc) (cc) _ _ c.loop.invariant (omega arith) (omega arith),
+)

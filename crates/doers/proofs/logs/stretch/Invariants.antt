@@ -1,12 +1,6 @@
--- The loop of `doers::logs::stretch`: what it keeps, and what falls. Assumes nothing.
-use Prim.Native.Nat.{◌-◌}
-use mathlib.Core.Path.{◌≡◌}
-use lib.ListN.{length}
+-- The loop of `doers::logs::stretch`: as many entries are copied as it counts. Assumes nothing.
 use Rattle.doers.proofs.StretchLaws.{Copying}
 use Rattle.doers.proofs.logs.stretch.Given as goal
 
-abbrev pub invariant-loop-k : goal.invariant-loop-k
-invariant-loop-k l = (length l.t ≡ length l.initial.t) × Copying l.initial.t l.i l.j l.n l.t l.k
-
-abbrev pub decreases-loop-k : goal.decreases-loop-k
-decreases-loop-k l = l.n - l.k
+abbrev pub invariant-loop : goal.invariant-loop
+invariant-loop l = Copying l.initial.t l.i l.j l.t l.counter

@@ -1,6 +1,5 @@
 -- `members::apart::lowest_apart` meets its contract. Assumes nothing.
 use native.Mathlib.Omega.{arith}
-use lib.Count.{ones-le}
 use Rattle.words.proofs.Tests.{false-fails}
 use Rattle.members.proofs.Masks.{ones_pos}
 use Rattle.members.proofs.Pairs.{pair_found}
@@ -8,12 +7,6 @@ use Rattle.members.proofs.apart.lowest_apart.Goals as goal
 
 pub overflow_sub-b : goal.overflow_sub-b
 overflow_sub-b c = omega (arith, ones_pos c.args.b (omega arith))
-
-pub overflow_add-a : goal.overflow_add-a
-overflow_add-a c = omega (arith, ones-le 16 c.args.a (omega arith))
-
-pub overflow_add-b : goal.overflow_add-b
-overflow_add-b c = omega (arith, ones-le 16 c.args.b (omega arith))
 
 pub returns : goal.returns
 returns c =

@@ -1,13 +1,11 @@
--- The loop of `questions::shares::sharing`: o has those of the servers 1 to k. Assumes nothing.
-use Prim.Native.Nat.{◌-◌}
-use Rattle.algorithm.specs.Table.{count}
-use Rattle.table.specs.Layout.{table_in}
-use Rattle.questions.specs.Questions.{alike}
-use Rattle.questions.proofs.LoopLaws.{Turned}
+-- The loop of `questions::shares::sharing`: the sets have those of the servers 1 to k. Assumes nothing.
+use mathlib.Core.Path.{◌≡◌}
+use Rattle.members.specs.Members.{passing}
+use Rattle.algorithm.specs.Actions.{same_config, same_term}
 use Rattle.questions.proofs.shares.sharing.Given as goal
 
 abbrev pub invariant-loop-k : goal.invariant-loop-k
-invariant-loop-k l = Turned (alike (table_in l.t) l.i l.q) (count (table_in l.t)) l.n l.k l.o
-
-abbrev pub decreases-loop-k : goal.decreases-loop-k
-decreases-loop-k l = l.n - l.k
+invariant-loop-k l = record {
+  config : l.config ≡ passing l.k (same_config l.t l.i) l.q;
+  term : l.term ≡ passing l.k (same_term l.t l.i) l.q;
+}

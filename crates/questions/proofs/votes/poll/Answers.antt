@@ -1,13 +1,23 @@
 -- `questions::votes::poll` meets its contract. Assumes nothing.
 use borrow.Author.Rules.{rules}
-use Rattle.questions.proofs.LoopLaws.{objecting-none, objecting-all}
+use Rattle.questions.proofs.LoopLaws.{passing-none, passing-fits, passing-in, passing-out}
 use Rattle.questions.proofs.votes.poll.Goals as goal
+use Rattle.questions.proofs.votes.poll.Goals.{then-q-k-eq1, else-q-k-eq1}
 
 pub loop-k-init : goal.loop-k-init
-loop-k-init c = search (rules, objecting-none)
+loop-k-init c = search (rules, passing-none)
 
-pub hear-o-requires-clause-o_value : goal.hear-o-requires-clause-o_value
-hear-o-requires-clause-o_value c = c.loop-k.invariant.is
+pub with_next-larger-requires : goal.with_next-larger-requires
+with_next-larger-requires c = search (rules, passing-fits)
 
-pub returns : goal.returns
-returns c = search (rules, objecting-all)
+pub with_next-newer-requires : goal.with_next-newer-requires
+with_next-newer-requires c = search (rules, passing-fits)
+
+pub with_next-ahead-requires : goal.with_next-ahead-requires
+with_next-ahead-requires c = search (rules, passing-fits)
+
+pub loop-k-preserved : goal.loop-k-preserved
+loop-k-preserved c = elim c.if-q-k-eq1.branch [
+  | then-q-k-eq1 w ↦ rw (w.larger-is, w.newer-is, w.ahead-is) (search (rules, passing-in))
+  | else-q-k-eq1 w ↦ rw (w.larger-is, w.newer-is, w.ahead-is) (search (rules, passing-out))
+]

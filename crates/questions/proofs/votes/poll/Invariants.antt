@@ -1,13 +1,12 @@
--- The loop of `questions::votes::poll`: o has those of the servers 1 to k. Assumes nothing.
-use Prim.Native.Nat.{◌-◌}
-use Rattle.algorithm.specs.Table.{count}
-use Rattle.table.specs.Layout.{table_in}
-use Rattle.questions.specs.Questions.{objecting}
-use Rattle.questions.proofs.LoopLaws.{Turned}
+-- The loop of `questions::votes::poll`: the sets have those of the servers 1 to k. Assumes nothing.
+use mathlib.Core.Path.{◌≡◌}
+use Rattle.members.specs.Members.{passing}
+use Rattle.algorithm.specs.Actions.{larger_term, newer_config, log_ahead}
 use Rattle.questions.proofs.votes.poll.Given as goal
 
 abbrev pub invariant-loop-k : goal.invariant-loop-k
-invariant-loop-k l = Turned (objecting (table_in l.t) l.i l.q) (count (table_in l.t)) l.n l.k l.o
-
-abbrev pub decreases-loop-k : goal.decreases-loop-k
-decreases-loop-k l = l.n - l.k
+invariant-loop-k l = record {
+  larger : l.larger ≡ passing l.k (larger_term l.t l.i) l.q;
+  newer : l.newer ≡ passing l.k (newer_config l.t l.i) l.q;
+  ahead : l.ahead ≡ passing l.k (log_ahead l.t l.i) l.q;
+}

@@ -1,11 +1,8 @@
 -- `reader::fill::fill_unread` meets its contract. Assumes nothing.
 use borrow.Author.Rules.{rules}
 use Rattle.table.proofs.HeldLaws.{held}
-use Rattle.reader.proofs.FillLaws.{marks-named, blank-marks, marks-unread}
+use Rattle.reader.proofs.FillLaws.{blank-marks, marks-unread}
 use Rattle.reader.proofs.fill.fill_unread.Goals as goal
-
-pub body_of-requires : goal.body_of-requires
-body_of-requires c = search (rules, marks-named)
 
 pub put_marks-requires-clause-held : goal.put_marks-requires-clause-held
 put_marks-requires-clause-held c = search (rules, held)

@@ -1,10 +1,6 @@
--- The loop of `reader::fill::put_log`: what it keeps, and what falls. Assumes nothing.
-use Prim.Native.Nat.{◌-◌}
+-- The loop of `reader::fill::put_log`: what it keeps. Assumes nothing.
 use Rattle.reader.proofs.FillLaws.{Logged}
 use Rattle.reader.proofs.fill.put_log.Given as goal
 
 abbrev pub invariant-loop-k : goal.invariant-loop-k
 invariant-loop-k l = Logged l.initial.t l.t l.s l.width l.b l.k
-
-abbrev pub decreases-loop-k : goal.decreases-loop-k
-decreases-loop-k l = l.n - l.k

@@ -8,4 +8,4 @@ pub give_set-requires : goal.give_set-requires
 give_set-requires c = search (held, blank-servers)
 
 pub returns : goal.returns
-returns c = held-stored _ _ (λ i. (c.slice_known-3-1.given i).fits) (search given-fresh)
+returns c = held-stored _ _ (λ i. (c.type_inv.t i).fits) (search given-fresh)

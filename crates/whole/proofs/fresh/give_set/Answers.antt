@@ -1,13 +1,10 @@
 -- `whole::fresh::give_set` meets its contract. Assumes nothing.
-use borrow.Author.Rules.{rules}
-use Rattle.whole.proofs.FreshLaws.{given-none, given-held, given-within, given-more, given-all}
+
+use Rattle.whole.proofs.FreshLaws.{given-none, given-more, given-all}
 use Rattle.whole.proofs.fresh.give_set.Goals as goal
 
 pub loop-k-init : goal.loop-k-init
 loop-k-init c = search given-none
-
-pub put_config-requires : goal.put_config-requires
-put_config-requires c = search (rules, given-held, given-within)
 
 pub loop-k-preserved : goal.loop-k-preserved
 loop-k-preserved c = search given-more

@@ -1,7 +1,7 @@
 -- `writer::bodies::put_half` meets its contract. Assumes nothing.
 use borrow.Author.Rules.{rules}
-use Rattle.writer.proofs.BodyWriteLaws.{two_bytes}
+use Rattle.writer.proofs.BodyWriteLaws.{half-put}
 use Rattle.writer.proofs.bodies.put_half.Goals as goal
 
 pub returns : goal.returns
-returns c = search (rules, two_bytes)
+returns c = search (rules, half-put)

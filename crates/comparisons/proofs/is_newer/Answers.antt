@@ -1,7 +1,0 @@
--- `comparisons::is_newer` meets its contract. Assumes nothing.
-use borrow.Author.Rules.{rules}
-use Rattle.comparisons.proofs.FigureLaws.{or-and-told}
-use Rattle.comparisons.proofs.is_newer.Goals as goal
-
-pub returns : goal.returns
-returns c = search (rules, or-and-told)

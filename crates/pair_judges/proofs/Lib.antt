@@ -1,2 +1,0 @@
--- The laws of the judges of one server or two.
-pub mod LogLaws

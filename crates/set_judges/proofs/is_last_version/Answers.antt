@@ -1,7 +1,0 @@
--- `set_judges::is_last_version` meets its contract. Assumes nothing.
-use borrow.Author.Rules.{rules}
-use Rattle.set_judges.proofs.SetLaws.{last-told}
-use Rattle.set_judges.proofs.is_last_version.Goals as goal
-
-pub returns : goal.returns
-returns c = search (rules, last-told)
