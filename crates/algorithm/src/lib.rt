@@ -121,7 +121,7 @@ impl Refused {
         }
     }
 
-    // The number and what is shown, as a reply has them in its eight bytes.
+    // The number and what is shown, as a reply has them in its eight bytes: by their places, since the bytes in a row would name the zeros between.
     fn eight_bytes(self) -> u64
         ensures { result ≡ value_of (reply_bytes (told self)) }
     {

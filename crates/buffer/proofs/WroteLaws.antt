@@ -10,7 +10,7 @@ use Rattle.buffer.specs.declared.Output.{Output}
 
 -- ---- at one place
 
-pub wrote_none : (b : List ℕ) (at : ℕ) → at ≤ length b → Wrote b b at [] at
+wrote_none : (b : List ℕ) (at : ℕ) → at ≤ length b → Wrote b b at [] at
 wrote_none b at h = record { end = omega arith; room = h; bytes = sym (take-append-drop at b) }
 
 -- ---- one behind another
@@ -40,7 +40,7 @@ module _ {b b₁ : List ℕ} {at e : ℕ} {l : List ℕ} (w : Wrote b b₁ at l 
       ∙ drop-drop n e b
 
   -- m behind l is l ++ m at the first place
-  pub then : {b₂ m : List ℕ} {f : ℕ} → Wrote b₁ b₂ e m f → Wrote b b₂ at (l ++ m) f
+  then : {b₂ m : List ℕ} {f : ℕ} → Wrote b₁ b₂ e m f → Wrote b b₂ at (l ++ m) f
   then {b₂} {m} {f} v =
       record {
         end = omega (arith, v.end, w.end, length-append l m);
@@ -53,13 +53,14 @@ module _ {b b₁ : List ℕ} {at e : ℕ} {l : List ℕ} (w : Wrote b b₁ at l 
 pub exact : {at e : ℕ} {b b₁ l : List ℕ} → Wrote b b₁ at l e → WroteShort (length l) b b₁ at l e
 exact w = record { wrote = w; short = omega (arith, w.end) }
 
-pub then-short : {n m at d e : ℕ} {b b₁ b₂ l k : List ℕ} → WroteShort n b b₁ at l d → WroteShort m b₁ b₂ d k e → WroteShort (n + m) b b₂ at (l ++ k) e
-then-short v w = record { wrote = then v.wrote w.wrote; short = omega (arith, v.short, w.short) }
-
 -- ---- by an output
 
 pub grown : {n m : ℕ} {o p q : Output} {l k : List ℕ} → Grew n o p l → Grew m p q k → Grew (n + m) o q (l ++ k)
-grown g h = record { same = h.same ∙ g.same; wrote = then-short g.wrote h.wrote }
+grown g h =
+    record {
+      same = h.same ∙ g.same;
+      wrote = record { wrote = then g.wrote.wrote h.wrote.wrote; short = omega (arith, g.wrote.short, h.wrote.short) };
+    }
 
 pub grown_none : (n : ℕ) (o : Output) → o.at ≤ length o.buffer.now → Grew n o o []
 grown_none n o h = record { same = refl; wrote = record { wrote = wrote_none o.buffer.now o.at h; short = omega arith } }

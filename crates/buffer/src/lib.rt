@@ -30,6 +30,7 @@ impl<'a> Output<'a> {
     }
 
     // The digits before the last are put first, as the definition has them, so that none is counted or turned around; the calls go ten deep at most.
+    // The library's formatting fills an array of its own, from which the digits would be copied.
     pub fn put_decimal(&mut self, v: u32)
         requires { Room number_room self.old }
         ensures { Grew number_room self.old self.new (decimal v) }

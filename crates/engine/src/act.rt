@@ -1,4 +1,4 @@
-// What is asked, done by its kind, in place.
+// What is asked, done by its kind, in place; the kinds are named as where they are judged.
 ghost use Rattle.std.specs.Prelude.{◌≡◌};
 ghost use Rattle.algorithm.specs.Run.{own_refusals, after, taken_shown};
 ghost use Rattle.words.specs.Refusal.{first};

@@ -1,4 +1,4 @@
-// What is asked, judged by its kind.
+// What is asked, judged by its kind. The kinds are closed, so a `match` names each of them, and nothing is handed out to be called.
 ghost use Rattle.std.specs.Prelude.{◌≡◌, false};
 ghost use Rattle.algorithm.specs.Table.{broken};
 ghost use Rattle.algorithm.specs.Run.{verdict_of, own_refusals};

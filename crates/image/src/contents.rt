@@ -74,7 +74,7 @@ pub fn stop_of(image: &[u8], e: usize) -> usize
     offset_of(image, e) + size_of(image, e)
 }
 
-// The length of body e before its log or its marks.
+// The length of body e before its log or its marks. The format has this length, that of an entry and that of an item apart, so each has its case.
 fn fixed_of(e: usize) -> usize
     ensures { (result ≡ fixed e) × (result ≤ figure_bytes) }
 {
@@ -84,7 +84,7 @@ fn fixed_of(e: usize) -> usize
     FIGURE_BYTES
 }
 
-// The bytes of an entry.
+// The bytes of an entry, which is wide by any number but 0.
 pub fn entry_bytes(width: u8) -> usize
     ensures { (result ≡ entry_bytes width) × (4 ≤ result) × (result ≤ 8) }
 {

@@ -79,7 +79,7 @@ pub fn with_next(m: u16, k: usize, b: bool) -> u16
     m
 }
 
-// The lowest server of m, and 0 where it is empty.
+// The lowest server of m, and 0 where it is empty: it is promised by a definition that counts so.
 pub fn lowest_member(m: u16) -> u8
     ensures { result ≡ lowest_up_to 16 (λ s. member s m) }
 {

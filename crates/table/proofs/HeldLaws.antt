@@ -81,15 +81,16 @@ module _ {A : Type 0} {at : ℕ} {part whole : A → List ℕ} (f : Framed at pa
 
 -- ---- the row of a server
 
+-- a server put where it is changes nothing
+pub unchanged : (t : Table) (i : ℕ) → with_server t i (server t i) ≡ t
+unchanged t i = λ d. with_servers (replace-nth t.servers i absent d) t
+
 module _ {b : List ℕ} {i : ℕ} (h : Held b) (w : Within (table_in b) i) where
   pub frame : Framed (row_words * i) row (λ s. layout (with_server (table_in b) i s))
   frame = server-in (table_in b) i w.some w.known h.shaped.few
 
   pub open_row : Open b frame (row (server (table_in b) i))
-  open_row = opened frame b (server (table_in b) i) h.sized (h.laid ∙ ap layout (sym unchanged))
-    where
-      unchanged : with_server (table_in b) i (server (table_in b) i) ≡ table_in b
-      unchanged = λ d. with_servers (replace-nth (table_in b).servers i absent d) (table_in b)
+  open_row = opened frame b (server (table_in b) i) h.sized (h.laid ∙ ap layout (sym (unchanged (table_in b) i)))
 
   pub close_row : {b' : List ℕ} (s : Server) → Roomy s → Open b' frame (row s) → Became b b' (with_server (table_in b) i s)
   close_row {b'} s l o = record { holds = holds; held = held holds; same = ap count (its-table holds) ∙ kept }

@@ -5,5 +5,6 @@ pub mod LayoutLaws
 pub mod HeldLaws
 pub mod RowLaws
 pub mod MarkLaws
+pub mod LentLaws
 pub mod SoundLaws
 pub mod StoredLaws

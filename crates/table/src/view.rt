@@ -1,11 +1,15 @@
 // A table read: a server's figures, and the marks.
-ghost use Rattle.std.specs.Prelude.{◌≡◌, ◌≤◌, ◌<◌, length, get_or};
+ghost use Rattle.std.specs.Prelude.{◌≡◌, ◌+◌, ◌*◌, ◌≤◌, ◌<◌, length, get_or};
+ghost use Rattle.words.specs.Lists.{part};
+ghost use Rattle.words.specs.Words.{words, bytes};
 ghost use Rattle.algorithm.specs.Table.{count, server, term_at, bake_at, mark, trimmed, positions, most_servers, last};
-ghost use Rattle.table.specs.Layout.{row_words, row, table_in};
+ghost use Rattle.table.specs.Layout.{row_words, table_bytes, terms, bakes, row, table_in};
 ghost use Rattle.table.specs.Slice.{Held, Roomy, Within, seen};
 
 use crate::figures::Figures;
-use crate::rows::{CONFIG, FLOOR, LAST, LENGTH, ROLE, ROW, RULE, Row, SET, TERM, VERSION};
+use crate::rows::{
+    BAKES, CONFIG, FLOOR, LAST, LENGTH, LOG, ROLE, ROW, RULE, Row, SET, TERM, VERSION,
+};
 use algorithm::{POSITIONS, Position, Term, Version};
 use std::marker::Model;
 use words::word;
@@ -29,6 +33,19 @@ impl<'a> Model for Table<'a> {
     ghost view = { λ a. table_in a.bytes.now };
 
     ghost invariant = { λ a. Held a.bytes.now };
+}
+
+// The n words from word k on, as they stand in the slice.
+fn words_from(t: &[u8], k: usize, n: usize) -> &[u8]
+    requires t_len { length t.now ≡ table_bytes }
+    requires n_bound { 4 * (k + n) ≤ table_bytes }
+    ensures bytes { result.now ≡ bytes (part (words t.now) k n) }
+    ensures words { words result.now ≡ part (words t.now) k n }
+    ensures sized { length result.now ≡ 4 * n }
+{
+    let from = 4 * k;
+    let to = from + 4 * n;
+    &t[from..to]
 }
 
 impl<'a> Table<'a> {
@@ -61,7 +78,7 @@ impl<'a> Table<'a> {
         word(self.bytes, FLOOR)
     }
 
-    // Word f of the row of server s.
+    // Word f of the row of server s; who reads a figure gives it its type.
     fn field(&self, s: usize, f: usize) -> u32
         requires within { Within self.now s }
         requires f_lt_row_words { f < row_words }
@@ -133,7 +150,7 @@ impl<'a> Table<'a> {
         }
     }
 
-    // The term of the log's last entry, 0 where it is empty.
+    // The term of the log's last entry; for an empty log the definition has 0.
     pub fn last(&self, s: usize) -> Term
         requires within { Within self.now s }
         ensures { result.0 ≡ last (server self.now s).log }
@@ -141,7 +158,7 @@ impl<'a> Table<'a> {
         self.row(s).last
     }
 
-    // The term of server s's entry at a position, 0 where it has none.
+    // The term of server s's entry at a position; for none the definition has 0, and so it has for a bake and a mark.
     pub fn entry(&self, s: usize, p: Position) -> Term
         requires within { Within self.now s }
         requires le_p { (1 ≤ p.0) × (p.0 ≤ positions) }
@@ -150,7 +167,7 @@ impl<'a> Table<'a> {
         Term(self.field(s, LENGTH + p.0 as usize))
     }
 
-    // The bake that this entry names, 0 where there is none.
+    // The bake that this entry names.
     pub fn bake(&self, s: usize, p: Position) -> u32
         requires within { Within self.now s }
         requires le_p { (1 ≤ p.0) × (p.0 ≤ positions) }
@@ -159,7 +176,7 @@ impl<'a> Table<'a> {
         self.field(s, LAST + p.0 as usize)
     }
 
-    // The term committed at a position, or 0.
+    // The term committed at a position.
     pub fn mark(&self, p: Position) -> Term
         requires le_p { (1 ≤ p.0) × (p.0 ≤ positions) }
         ensures value { result.0 ≡ mark self.now p.0 }
@@ -179,5 +196,31 @@ impl<'a> Table<'a> {
             }
         }
         0
+    }
+
+    // The terms of server s's log, four bytes each, as they stand in the slice.
+    pub fn terms(&self, s: usize) -> &[u8]
+        requires within { Within self.now s }
+        ensures { result.now ≡ bytes (terms (server self.now s).log) }
+    {
+        words_from(self.bytes, ROW * s + LOG, self.length(s).0 as usize)
+    }
+
+    // Its bakes, likewise.
+    pub fn bakes(&self, s: usize) -> &[u8]
+        requires within { Within self.now s }
+        ensures bytes { result.now ≡ bytes (bakes (server self.now s).log) }
+        ensures words { words result.now ≡ bakes (server self.now s).log }
+        ensures sized { length result.now ≡ 4 * length (server self.now s).log }
+    {
+        words_from(self.bytes, ROW * s + BAKES, self.length(s).0 as usize)
+    }
+
+    // The marks through the last that is not 0, likewise.
+    pub fn mark_bytes(&self) -> &[u8]
+        ensures bytes { result.now ≡ bytes (trimmed self.now.marks) }
+        ensures few { length result.now ≤ 4 * positions }
+    {
+        words_from(self.bytes, LOG, self.marked() as usize)
     }
 }

@@ -12,7 +12,7 @@ pub struct Walk<'a> {
     pub at: usize,
 }
 
-// What stands at the place: a whole action of 8 bytes, fewer bytes, or nothing; with the place behind it.
+// What stands at the place: a whole action of 8 bytes, fewer bytes, or nothing; with the place behind it. An `Option` has one case too few.
 #[derive(Clone, Copy)]
 pub enum Found {
     Action(usize),

@@ -1,10 +1,9 @@
 // The bodies of a table's image, each put at the place of an output.
-ghost use Rattle.std.specs.Prelude.{◌≡◌, [], ◌∷◌, ◌+◌, ◌*◌, ◌≤◌, ◌<◌, length, take, drop};
+ghost use Rattle.std.specs.Prelude.{◌≡◌, [], ◌∷◌, ◌*◌, ◌<◌, length};
 ghost use Rattle.words.specs.Lists.{every};
-ghost use Rattle.words.specs.Words.{half, words, bytes};
+ghost use Rattle.words.specs.Words.{half, bytes};
 ghost use Rattle.algorithm.specs.Table.{server};
-ghost use Rattle.table.specs.Slice.{figured, Held, Within};
-ghost use Rattle.table.specs.Layout.{table_bytes, table_in};
+ghost use Rattle.table.specs.Slice.{figured, Within};
 ghost use Rattle.buffer.specs.Buffer.{Room, Grew};
 ghost use Rattle.image.specs.Contents.{figure_bytes, entry_bytes};
 ghost use Rattle.image.specs.Image.{unbaked, wide, marks_body, baked_words, log_words, server_body};
@@ -13,26 +12,22 @@ use algorithm::Position;
 use buffer::Output;
 use table::Table;
 use table::figures::Figures;
-use table::rows::{BAKES, LOG, ROW};
 use words::all_between;
 
 // Every bake of server s is 0.
-fn is_unbaked(t: &[u8], s: usize) -> bool
-    requires held { Held t.now }
-    requires within { Within (table_in t.now) s }
-    ensures { result ≡ unbaked (server (table_in t.now) s) }
+fn is_unbaked(t: &Table<'_>, s: usize) -> bool
+    requires within { Within t.now s }
+    ensures { result ≡ unbaked (server t.now s) }
 {
-    let n = Table::of(t).length(s).0 as usize;
-    all_between(t, ROW * s + BAKES, n, 0, 0)
+    let n = t.length(s).0 as usize;
+    all_between(t.bakes(s), 0, n, 0, 0)
 }
 
-fn are_unbaked(t: &[u8]) -> bool
-    requires { Held t.now }
-    ensures { result ≡ every unbaked (table_in t.now).servers }
+fn are_unbaked(t: &Table<'_>) -> bool
+    ensures { result ≡ every unbaked t.now.servers }
 {
-    let n = Table::of(t).count();
     let mut unbaked = true;
-    for s in 1..=n {
+    for s in 1..=t.count() {
         unbaked &= is_unbaked(t, s as usize);
     }
     unbaked
@@ -40,9 +35,8 @@ fn are_unbaked(t: &[u8]) -> bool
 
 // The width of the entries in the image: 0 where every bake is 0, else 1.
 #[tactic(auto, unfolding(image::specs::Image::wide))]
-pub fn width_of(t: &[u8]) -> u8
-    requires { Held t.now }
-    ensures { result ≡ wide (table_in t.now) }
+pub fn width_of(t: &Table<'_>) -> u8
+    ensures { result ≡ wide t.now }
 {
     if are_unbaked(t) {
         return 0;
@@ -64,18 +58,6 @@ fn put_number(out: &mut Output<'_>, v: u32)
     ensures { Grew 4 out.old out.new (bytes (v ∷ [])) }
 {
     out.put_word(&v.to_le_bytes());
-}
-
-// The n words from word k of a table's slice: marks, and entries that are terms alone, stand in an image as they do in a table.
-fn put_words(out: &mut Output<'_>, t: &[u8], k: usize, n: usize)
-    requires t_len { length t.now ≡ table_bytes }
-    requires n_bound { 4 * (k + n) ≤ table_bytes }
-    requires room { Room (4 * n) out.old }
-    ensures { Grew (4 * n) out.old out.new (bytes (take n (drop k (words t.now)))) }
-{
-    let from = 4 * k;
-    let to = from + 4 * n;
-    out.put_word(&t[from..to]);
 }
 
 // The figures of a server, all that its body has before its log. The role and the 0 behind it are one number of two bytes.
@@ -103,38 +85,33 @@ fn put_entries(out: &mut Output<'_>, t: &Table<'_>, s: usize)
     }
 }
 
-// The log of server s.
-fn put_log(out: &mut Output<'_>, t: &[u8], s: usize, width: u8)
-    requires held { Held t.now }
-    requires within { Within (table_in t.now) s }
-    requires room { Room (entry_bytes width * length (server (table_in t.now) s).log) out.old }
-    ensures { Grew (entry_bytes width * length (server (table_in t.now) s).log) out.old out.new (bytes (log_words width (server (table_in t.now) s).log)) }
+// The log of server s. Entries that are terms alone stand in an image as they do in a table.
+fn put_log(out: &mut Output<'_>, t: &Table<'_>, s: usize, width: u8)
+    requires within { Within t.now s }
+    requires room { Room (entry_bytes width * length (server t.now s).log) out.old }
+    ensures { Grew (entry_bytes width * length (server t.now s).log) out.old out.new (bytes (log_words width (server t.now s).log)) }
 {
-    let table = Table::of(t);
     if width == 0 {
-        let n = table.length(s).0 as usize;
-        put_words(out, t, ROW * s + LOG, n);
+        out.put_word(t.terms(s));
         return;
     }
-    put_entries(out, &table, s);
+    put_entries(out, t, s);
 }
 
-pub(crate) fn put_server(out: &mut Output<'_>, t: &[u8], s: usize, width: u8)
-    requires held { Held t.now }
-    requires within { Within (table_in t.now) s }
-    requires role { (server (table_in t.now) s).role < 256 }
-    requires room { Room (length (server_body width (server (table_in t.now) s))) out.old }
-    ensures { Grew (length (server_body width (server (table_in t.now) s))) out.old out.new (server_body width (server (table_in t.now) s)) }
+pub(crate) fn put_server(out: &mut Output<'_>, t: &Table<'_>, s: usize, width: u8)
+    requires within { Within t.now s }
+    requires role { (server t.now s).role < 256 }
+    requires room { Room (length (server_body width (server t.now s))) out.old }
+    ensures { Grew (length (server_body width (server t.now s))) out.old out.new (server_body width (server t.now s)) }
 {
-    put_figures(out, Table::of(t).row(s).figures);
+    put_figures(out, t.row(s).figures);
     put_log(out, t, s, width);
 }
 
-pub(crate) fn put_marks(out: &mut Output<'_>, t: &[u8])
-    requires held { Held t.now }
-    requires room { Room (length (marks_body (table_in t.now).marks)) out.old }
-    ensures { Grew (length (marks_body (table_in t.now).marks)) out.old out.new (marks_body (table_in t.now).marks) }
+// The marks too stand in an image as they do in a table.
+pub(crate) fn put_marks(out: &mut Output<'_>, t: &Table<'_>)
+    requires { Room (length (marks_body t.now.marks)) out.old }
+    ensures { Grew (length (marks_body t.now.marks)) out.old out.new (marks_body t.now.marks) }
 {
-    let n = Table::of(t).marked() as usize;
-    put_words(out, t, LOG, n);
+    out.put_word(t.mark_bytes());
 }

@@ -13,7 +13,7 @@ use image::contents::{FIGURE_BYTES, entry_bytes};
 use std::marker::Model;
 use table::Table;
 
-// The slice of a table that may be saved, and the width of the entries in its image. Its words are copied from the slice as they stand.
+// The slice of a table that may be saved, and the width of the entries in its image.
 #[derive(Drop)]
 pub struct Saved<'a> {
     bytes: &'a [u8],
@@ -41,7 +41,7 @@ impl<'a> Saved<'a> {
     {
         Saved {
             bytes,
-            width: width_of(bytes),
+            width: width_of(&Table::of(bytes)),
         }
     }
 
@@ -78,15 +78,16 @@ impl<'a> Saved<'a> {
         requires e_in_bounds { length (body_of self.now e) ≤ length part.old }
         ensures { Wrote part.old part.new 0 (body_of self.now e) result }
     {
+        let t = Table::of(self.bytes);
         let mut out = Output {
             buffer: part,
             at: 0,
         };
         if 1 <= e {
-            put_server(&mut out, self.bytes, e, self.width);
+            put_server(&mut out, &t, e, self.width);
             return out.at;
         }
-        put_marks(&mut out, self.bytes);
+        put_marks(&mut out, &t);
         out.at
     }
 }

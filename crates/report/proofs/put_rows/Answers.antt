@@ -11,8 +11,5 @@ loop-s-init c = (search rules, search (rules, lined-none))
 pub loop-s-preserved : goal.loop-s-preserved
 loop-s-preserved c = (search rules, search (rules, rows_more))
 
-pub returns : goal.returns
-returns c = search (rules, rows_all)
-
 pub returns-2 : goal.returns-2
 returns-2 c = rows_all _ _ _ (c.loop-s.s + 1) c.count-s-end.result (search (rules, rows_more)) (omega arith) (omega arith) (search rules) (search rules)

@@ -12,8 +12,5 @@ loop-k-init c = (search rules, search (rules, no_fields))
 pub loop-k-preserved : goal.loop-k-preserved
 loop-k-preserved c = (search rules, search (rules, marks-more))
 
-pub returns : goal.returns
-returns c = search (rules, marks-all)
-
 pub returns-2 : goal.returns-2
 returns-2 c = marks-all _ _ _ (c.loop-k.k + 1) _ (search (rules, marks-more)) (omega arith) (omega arith) (search rules)

@@ -1,6 +1,6 @@
 -- `writer::bodies::are_unbaked` meets its contract. Assumes nothing.
 use borrow.Author.Rules.{rules}
-use Rattle.writer.proofs.RowWords.{bare-none, bare-more, bare-last}
+use Rattle.writer.proofs.BakeLaws.{bare-none, bare-more, bare-last}
 use Rattle.writer.proofs.bodies.are_unbaked.Goals as goal
 
 pub loop-s-init : goal.loop-s-init

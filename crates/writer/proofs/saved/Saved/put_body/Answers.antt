@@ -6,8 +6,8 @@ use Rattle.writer.proofs.saved.Saved.put_body.Goals as goal
 pub put_server-requires-clause-room : goal.put_server-requires-clause-room
 put_server-requires-clause-room c = search (rules, server-room)
 
-pub put_marks-requires-clause-room : goal.put_marks-requires-clause-room
-put_marks-requires-clause-room c = search (rules, marks-room)
+pub put_marks-requires : goal.put_marks-requires
+put_marks-requires c = search (rules, marks-room)
 
 pub returns-then-e-ge1 : goal.returns-then-e-ge1
 returns-then-e-ge1 c = search (rules, server-wrote)
