@@ -8,7 +8,7 @@ use lib.ListN.{length, take, drop, replicate, length-drop, length-replicate}
 use lib.Seq.{take_all}
 use borrow.Author.Tests.{le-ltb, eq-eqb, ne_eqb}
 use Rattle.words.specs.Refusal.{first}
-use Rattle.algorithm.specs.declared.Refused as algorithm
+use Rattle.algorithm.specs.declared.Refused.{Refused}
 use Rattle.algorithm.specs.Run.{told, run}
 use Rattle.table.specs.Layout.{table_bytes, table_in}
 use Rattle.table.proofs.StoredLaws.{stored-table}
@@ -22,19 +22,19 @@ use Rattle.buffer.specs.declared.Output.{Output}
 use Rattle.buffer.proofs.WroteLaws.{lent}
 use Rattle.report.specs.Lines.{bad_site_line, played_lines}
 use Rattle.std.specs.Prelude.{Result, Ok, Err}
-use Rattle.rehearsal.specs.Programs.{longest, site_reply, fault_line, plan_of, input_lines, printed, Refused, Playable, OpenAnswer, Written, to_output, to_error, saved, bytes_of, answer_of, SaveAnswer}
+use Rattle.rehearsal.specs.Programs.{longest, site_reply, fault_line, plan_of, input_lines, printed, Unplayed, Playable, OpenAnswer, Written, to_output, to_error, saved, bytes_of, answer_of, SaveAnswer}
 
 -- ---- the input is opened
 
-module _ (im t t' : List ℕ) (x : Result ℕ algorithm.Refused) (sized : length t ≡ table_bytes) (small : length im ≤ longest)
+module _ (im t t' : List ℕ) (x : Result ℕ Refused) (sized : length t ≡ table_bytes) (small : length im ≤ longest)
     (answered : x ≡ read_result im t) (bytes : t' ≡ read_bytes im t) where
   -- of the slice, the reader's number hangs on the length alone
   same-reply : read_reply im t ≡ site_reply im
   unfolding read_reply first
   same-reply = let same : length t ≡ length (replicate {A = ℕ} table_bytes 0) = sized ∙ sym (length-replicate {A = ℕ} table_bytes 0) in rw same
 
-  pub bad-site-told : (r : algorithm.Refused) (k : ℕ) (o p : Output) (e : ℕ) → x ≡ Err r → k ≡ (told r).number
-      → Grew (8 + field_room + 1) o p (bad_site_line k) → e ≡ p.at → Refused im o p e
+  pub bad-site-told : (r : Refused) (k : ℕ) (o p : Output) (e : ℕ) → x ≡ Err r → k ≡ (told r).number
+      → Grew (8 + field_room + 1) o p (bad_site_line k) → e ≡ p.at → Unplayed im o p e
   bad-site-told r k o p e f g w is =
       let short = le-ltb longest (length im) small in
       let a = answered-err im t t' 0 k r g (sym f ∙ answered) bytes in
@@ -63,21 +63,21 @@ saved-as w e v = record { answer = rw e; wrote = rw e v }
 -- what an output has that was made of the buffer b, which is b' when the program has ended
 module _ (im b b' t : List ℕ) (o p : Output) (r : Result ℕ ℕ) (a : OpenAnswer im o p t r) (first : o.at ≡ 0) (is : b ≡ o.buffer.now) where
   module _ (n : ℕ) (told : r ≡ Err n) (last : o.buffer.ghost_name ≡ p.buffer.ghost_name → b' ≡ p.buffer.now) where
-    refused : Refused im o p n
-    refused = rw told at a
+    unplayed : Unplayed im o p n
+    unplayed = rw told at a
 
     fault-wrote : Wrote b b' 0 (fault_line im) n
-    fault-wrote = rw refused.place (lent refused.told first is last)
+    fault-wrote = rw unplayed.place (lent unplayed.told first is last)
 
     pub told-shown : Wrote b b' 0 (printed im) n
     unfolding input_lines flatten
-    told-shown = rw (refused.fault, append-nil _) fault-wrote
+    told-shown = rw (unplayed.fault, append-nil _) fault-wrote
 
     pub told-saved : SaveAnswer im b (Err n) b'
     unfolding saved
     told-saved =
         let long = fault-wrote.end ∙ zero-add _ in
-        rw long (saved-as (to_error (fault_line im)) (rw refused.fault) (rw long at fault-wrote))
+        rw long (saved-as (to_error (fault_line im)) (rw unplayed.fault) (rw long at fault-wrote))
 
   module _ (at : ℕ) (site : r ≡ Ok at) where
     found : Playable im o p t at

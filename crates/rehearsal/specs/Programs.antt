@@ -72,7 +72,7 @@ sent (Ok n) b = to_output (take n b)
 sent (Err n) b = to_error (take n b)
 
 -- the input is not played: the line that tells why is put out, and ends at a place
-pub record Refused (input : List ℕ) (o p : Output) (end : ℕ) : Type 0 where
+pub record Unplayed (input : List ℕ) (o p : Output) (end : ℕ) : Type 0 where
   pub fault : faulty input ≡ true
   pub told : Grew (8 + field_room + 1) o p (fault_line input)
   pub place : end ≡ p.at
@@ -90,4 +90,4 @@ pub record Playable (input : List ℕ) (o p : Output) (t : List ℕ) (at : ℕ) 
 -- the one or the other, by the answer
 abbrev pub OpenAnswer : List ℕ → Output → Output → List ℕ → Result ℕ ℕ → Type 0
 OpenAnswer input o p t (Ok at) = Playable input o p t at
-OpenAnswer input o p t (Err end) = Refused input o p end
+OpenAnswer input o p t (Err end) = Unplayed input o p end
