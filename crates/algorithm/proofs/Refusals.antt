@@ -1,7 +1,7 @@
 -- What a step does where no refusal holds, and where one does. Assumes nothing.
 use Prim.Native.Nat.{ℕ, zero, suc, ◌≤◌, ◌<◌}
 use mathlib.Core.Bool.{Bool, true, false, cond, not, ◌||◌, ◌&&◌}
-use mathlib.Core.List.{List, [], ◌++◌}
+use mathlib.Core.List.{List, [], ◌++◌, append-nil}
 use mathlib.Core.Logic.{◌⊎◌, inl, inr, ⊎_elim}
 use mathlib.Core.Path.{◌≡◌, refl, sym, subst}
 use native.Mathlib.Decide.{ℕ_discrete}
@@ -14,7 +14,7 @@ use Rattle.words.proofs.RefusalLaws.{NoneHold, lacks, first-later, none-hold, in
 use Rattle.words.proofs.Tests.{Passes, Fails, neither, refuted, both-refuted}
 use Rattle.algorithm.specs.Table.{Table, count, broken, positions, largest_bake}
 use Rattle.words.specs.Lists.{every, between}
-use Rattle.words.specs.Refusal.{Refusal, first, Answer, answer, given, first_shown}
+use Rattle.words.specs.Refusal.{nothing, Refusal, first, Answer, answer, given, first_shown}
 use Rattle.algorithm.specs.Bytes.{Action, unknown, elect, reconfigure, send, spread, write, fetch, roll_back, commit, kinds, kind_of, i_of, j_of, set_of, bake_of, uses_set, uses_j, action_of, stretch, set_fits}
 use Rattle.algorithm.specs.Run.{known, common_refusals, own_refusals, order, refusals, after, taken_shown, answered, step, wins, brought_by, writes}
 
@@ -33,6 +33,11 @@ own-numbers t (fetch i j) = (tt, tt)
 own-numbers t (roll_back i j) = (tt, tt)
 own-numbers t (commit i q) = (tt, tt)
 own-numbers t (stretch i j c) = (tt, tt)
+
+-- where none of them holds, nothing is shown
+pub none-given : (t : Table) (a : Action) → first (own_refusals t a) ≡ 0 → given (own_refusals t a) ≡ answer 0 nothing
+unfolding first first_shown
+none-given t a e = rw append-nil at (given-none (own_refusals t a) [] (own-numbers t a).0 e)
 
 -- the refusals of an action stand in that order, so that the first that holds is the lowest, but that 25 comes before 14 to 24
 pub lowest-first : (t : Table) (a : List ℕ) → T (in_order order (refusals t a))

@@ -1,19 +1,23 @@
 -- Replies: every answer of the algorithm is one that the enum carries and eight bytes hold, and how a judge's tests give it. Assumes nothing.
 use Prim.Native.Nat.{ℕ, zero, suc, ◌+◌, ◌*◌, ◌/◌, ◌%◌, ◌≤◌, ◌<◌}
 use native.Mathlib.Omega.{arith}
-use mathlib.Core.Bool.{Bool, true, false, not, cond, ◌&&◌}
+use mathlib.Core.Bool.{Bool, true, false, not, cond, ◌||◌, ◌&&◌}
+use mathlib.Core.Logic.{◌⊎◌, inl, inr}
 use mathlib.Core.List.{List, [], ◌∷◌, ◌++◌, flatten}
 use mathlib.Core.Path.{◌≡◌, refl, sym, ap, subst, ◌∙◌}
 use mir.Facts.{eqb_yes, eqb_no}
 use lib.Dec.{T, leb, ltb, eqb}
-use lib.ListN.{length, get_or}
+use lib.ListN.{length, get_or, take, drop}
 use lib.Pow.{pow_mono}
+use lib.Seq.{drop-drop}
 use borrow.Author.Rules.{rules}
 use borrow.Author.Tests.{ne_eqb}
-use Rattle.words.specs.Lists.{every, between}
+use Rattle.words.specs.Lists.{every, between, all_below}
 use Rattle.words.specs.Words.{pair_of, value_of, eight}
 use Rattle.words.specs.Refusal.{Shown, nothing, Refusal, refuse_showing, first, first_shown, Answer, answer, given}
-use Rattle.words.proofs.Tests.{Passes, false-fails, both, at_most, less, and-told}
+use Rattle.words.proofs.Tests as Tests
+use Rattle.words.proofs.Tests.{Passes, false-fails, both, equal, at_most, less, and-told}
+use Rattle.words.proofs.BelowLaws.{all-below}
 use Rattle.words.proofs.WordLaws.{eight-value}
 use Rattle.words.proofs.RefusalLaws.{quiet, quiet_each, EachHeld, given-hit, given-miss, turned, either}
 use Rattle.members.specs.Members.{member, within, lowest_in}
@@ -89,6 +93,34 @@ shows-nothing Servers a b c d e = refl
 shows-nothing NotLaidOut a b c d e = refl
 shows-nothing Unsound a b c d e = refl
 shows-nothing NoRoom a b c d e = refl
+
+-- ---- numbers and names
+
+-- the numbers that refusals have
+abbrev pub is_number : ℕ → Bool
+is_number k = between 1 25 k || between 30 35 k
+
+-- k is no such number, or its name tells it
+abbrev is_told : Shown → ℕ → Bool
+is_told s k = not (is_number k) || eqb (told (refused_of (answer k s))).number k
+
+-- 13 has two names, by what is shown
+all-told : (s : Shown) (b : Bool) → eqb s.old 0 ≡ b → Passes (all_below 36 (is_told s))
+unfolding all_below
+all-told s true e = rw e (record { yes = tt })
+all-told s false e = rw e (record { yes = tt })
+
+-- the name of a number tells it, whatever is shown
+pub number-told : (k : ℕ) (s : Shown) → Passes (is_number k) → (told (refused_of (answer k s))).number ≡ k
+number-told k s h = go (is_number k) h (all-below 36 (is_told s) (all-told s (eqb s.old 0) refl) k (below (Tests.either {a = between 1 25 k} h)))
+  where
+    below : Passes (between 1 25 k) ⊎ Passes (between 30 35 k) → k < 36
+    below (inl r) = let most : k ≤ 25 = at_most (both {a = leb 1 k} r).1 in omega arith
+    below (inr r) = let most : k ≤ 35 = at_most (both {a = leb 30 k} r).1 in omega arith
+
+    go : (b : Bool) → Passes b → Passes (not b || eqb (told (refused_of (answer k s))).number k) → (told (refused_of (answer k s))).number ≡ k
+    go true h t = equal t
+    go false h t = absurd h.yes
 
 -- ---- answers that a reply carries
 
@@ -281,6 +313,19 @@ play-carried t [] = tt
 play-carried t (a ∷ p) = (step-carried t a, play-carried (step t a).table p)
 
 -- ---- answers told from bytes
+
+pub length-answers : (n : ℕ) (rs : List ℕ) → length (answers_in n rs) ≡ n
+unfolding pieces
+length-answers zero rs = refl
+length-answers (suc n) rs = ap suc (length-answers n (drop 8 rs))
+
+pub answer_at : (n k : ℕ) (rs : List ℕ) → k < n → get_or (answers_in n rs) k (answer 0 nothing) ≡ answer_in (take 8 (drop (8 * k) rs))
+unfolding pieces
+answer_at zero k rs l = absurd (omega arith)
+answer_at (suc n) zero rs l = refl
+answer_at (suc n) (suc k) rs l =
+    let next : 8 * suc k ≡ 8 + 8 * k = omega arith in
+    rw (next, ← drop-drop (8 * k) 8 rs) (answer_at n k (drop 8 rs) (omega arith))
 
 -- from the bytes of some answers these are told, whatever stands behind
 pub answers-back : (rs : List Answer) (rest : List ℕ) → Each Carried rs → answers_in (length rs) (replies_bytes rs ++ rest) ≡ rs

@@ -62,7 +62,7 @@ numbered s =
     ∷ Broken ∷ Broken ∷ Broken ∷ Broken
     ∷ Short ∷ NotOpened ∷ Servers ∷ NotLaidOut ∷ Unsound ∷ NoRoom ∷ []
 
--- the refusal that an answer is
+-- the refusal that an answer is; a number without a name, which no answer of the algorithm has, reads as `Broken`
 abbrev pub refused_of : Answer → Refused
 refused_of a = get_or (numbered a.shown) a.number Broken
 

@@ -48,6 +48,20 @@ module _ {b b₁ : List ℕ} {at e : ℕ} {l : List ℕ} (w : Wrote b b₁ at l 
         bytes = v.bytes ∙ rw (before, v.end, behind (length m)) (simp append_assoc);
       }
 
+-- a word copied over a part as long as it is
+pub copied : (b ys w : List ℕ) (at k : ℕ) → at + length w ≤ length b → k ≡ length w → ys ≡ w
+    → Wrote b (take at b ++ (ys ++ drop k (drop at b))) at w (at + length w)
+copied b ys w at k h e f = record { end = refl; room = h; bytes = rw (f, e, drop-drop (length w) at b) }
+
+-- ---- what a caller that lends `&buffer[..e]` is asked for
+
+module _ (b b' : List ℕ) (at : ℕ) (l : List ℕ) (e : ℕ) (w : Wrote b b' at l e) where
+  pub wrote-within : e ≤ length b'
+  wrote-within = omega (arith, w.room, sized w)
+
+  pub wrote-lent : e ≡ length (take e b')
+  wrote-lent = sym (length-take-le e b' wrote-within)
+
 -- ---- with a bound
 
 pub exact : {at e : ℕ} {b b₁ l : List ℕ} → Wrote b b₁ at l e → WroteShort (length l) b b₁ at l e

@@ -70,7 +70,7 @@ module _ (b a : List ℕ) (h : Ready b) where
     pub form-refused : (r : Refused) → f ≡ Err r → Stepped b a (Err r) b
     form-refused r e =
         let forms = form_refusals (count (table_in b)) a in
-        let (is, other) = told-refused (count (table_in b)) a r (told (Err r) e) in
+        let (is, (_, other)) = told-refused (count (table_in b)) a r (told (Err r) e) in
         let refused : step (table_in b) a ≡ outcome_by (table_in b) (given forms) (action_of a) =
         given_so (given forms) (given-held forms (own_refusals (table_in b) (action_of a)) other) in
         let z : eqb (first forms) 0 ≡ false = ne_eqb _ 0 other in

@@ -17,13 +17,16 @@ pub mod act;
 pub mod judges;
 pub mod pieces;
 
-// What is asked is judged, and done if nothing speaks against it.
+// What is asked is judged, and done if nothing speaks against it. Here and below a refusal is handed on by a `return` and not by a `?`, in which no
+// edit could put another answer in its place.
 fn answer(t: &mut [u8], x: Asked) -> Reply
     requires ready { Ready t.old }
     requires fitting { Fitting (table_in t.old) x }
     ensures { Answered t.old x result t.new }
 {
-    judge(&Table::of(t), x)?;
+    if let Err(own) = judge(&Table::of(t), x) {
+        return Err(own);
+    }
     Ok(act(t, x))
 }
 
@@ -32,7 +35,10 @@ pub fn step(t: &mut [u8], a: &[u8]) -> Reply
     requires { Ready t.old }
     ensures { Stepped t.old a.now result t.new }
 {
-    let x = read_action(Table::of(t).count(), a)?;
+    let x = match read_action(Table::of(t).count(), a) {
+        Ok(x) => x,
+        Err(refused) => return Err(refused),
+    };
     answer(t, x)
 }
 

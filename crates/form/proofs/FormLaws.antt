@@ -11,14 +11,15 @@ use mir.Facts.{eqb_no}
 use Rattle.words.specs.Words.{words}
 use Rattle.words.proofs.WordLaws.{word_at}
 use Rattle.words.specs.Lists.{every, between, all_below}
-use Rattle.words.specs.Refusal.{Refusal, first, first_shown, given}
+use Rattle.words.specs.Refusal.{Refusal, first, first_shown, Answer, given}
 use Rattle.words.proofs.Tests.{Passes, both, both-refuted, false-fails, at_most}
 use Rattle.words.proofs.BelowLaws.{all-below}
-use Rattle.words.proofs.RefusalLaws.{none-hold}
+use Rattle.words.proofs.RefusalLaws.{none-hold, given-each}
 use Rattle.members.specs.Members.{within}
 use Rattle.algorithm.specs.Table.{positions}
 use Rattle.algorithm.specs.Bytes.{kind_of, i_of, j_of, set_of, bake_of, uses_set, set_fits, uses_j, Action, unknown, elect, reconfigure, send, spread, write, fetch, roll_back, commit, stretch, kinds, action_of}
-use Rattle.algorithm.specs.Run.{refused_of, verdict_of, stray_zero, unknown_kind, form_refusals}
+use Rattle.algorithm.specs.Run.{told, refused_of, verdict_of, stray_zero, unknown_kind, form_refusals}
+use Rattle.algorithm.proofs.Replies.{is_number, number-told}
 use Rattle.std.specs.Prelude.{Result, Ok, Err}
 use Rattle.algorithm.specs.declared.Refused.{Refused}
 use Rattle.algorithm.specs.declared.Refused.TheVariants.{Unknown}
@@ -146,13 +147,24 @@ module _ (n : ℕ) (a : List ℕ) where
       go true e h = (eqb-true _ _ e, sym (asked-back (action_of a)) ∙ ap action_in h)
       go false e h = absurd (cc)
 
-  pub told-refused : (r : Refused) → form_of n a ≡ Err r → (r ≡ refused_of (given (form_refusals n a))) × (first (form_refusals n a) ≡ 0 → ⊥)
+  pub told-refused : (r : Refused) → form_of n a ≡ Err r
+      → (r ≡ refused_of (given (form_refusals n a))) × ((first (form_refusals n a) ≡ (told r).number) × (first (form_refusals n a) ≡ 0 → ⊥))
   unfolding every
   told-refused r h = go (eqb (first (form_refusals n a)) 0) refl h
     where
-      go : (b : Bool) → eqb (first (form_refusals n a)) 0 ≡ b → form b ≡ Err r → (r ≡ refused_of (given (form_refusals n a))) × (first (form_refusals n a) ≡ 0 → ⊥)
+      -- each of them has its number
+      numbered : (first (form_refusals n a) ≡ 0 → ⊥) → Passes (is_number (first (form_refusals n a)))
+      numbered =
+          given-each (λ (x : Answer). (x.number ≡ 0 → ⊥) → Passes (is_number x.number)) (form_refusals n a) (λ z. absurd (z refl))
+          (λ _ z. record { yes = tt }, (λ _ z. record { yes = tt }, (λ _ z. record { yes = tt }, (λ _ z. record { yes = tt }, tt))))
+
+      go : (b : Bool) → eqb (first (form_refusals n a)) 0 ≡ b → form b ≡ Err r
+          → (r ≡ refused_of (given (form_refusals n a))) × ((first (form_refusals n a) ≡ (told r).number) × (first (form_refusals n a) ≡ 0 → ⊥))
       go true e h =
           let kind = (both-refuted {a = eqb (length a) 8} {b = leb 1 (kind_of a) && leb (kind_of a) 9} (none-hold (form_refusals n a) tt (eqb-true _ _ e) 2)).1 in
           let (least, most) = both kind in
           absurd (rw h at (known-asks (kind_of a) (i_of a) (j_of a) (set_of a) (bake_of a) (at_most least) (at_most most))).yes
-      go false e h = (cc, λ z. eqb_no (false-fails e).no z)
+      go false e h =
+          let name : r ≡ refused_of (given (form_refusals n a)) = cc in
+          let other : first (form_refusals n a) ≡ 0 → ⊥ = λ z. eqb_no (false-fails e).no z in
+          (name, (rw name (sym (number-told (first (form_refusals n a)) (given (form_refusals n a)).shown (numbered other))), other))

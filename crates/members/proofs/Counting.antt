@@ -13,6 +13,15 @@ count (suc k) f = one (f (suc k)) + count k f
 
 -- ---- one test
 
+pub one-le : (b : Bool) → one b ≤ 1
+one-le true = omega arith
+one-le false = omega arith
+
+pub count-le : (n : ℕ) (f : ℕ → Bool) → count n f ≤ n
+unfolding count
+count-le zero f = omega arith
+count-le (suc k) f = omega (arith, one-le (f (suc k)), count-le k f)
+
 -- a positive count has a server behind it
 pub count-some : (n : ℕ) (f : ℕ → Bool) → 0 < count n f → (s : ℕ) × (s ≤ n) × T (f s)
 unfolding count

@@ -4,15 +4,16 @@ use mathlib.Core.Bool.{false}
 use mathlib.Core.Path.{◌≡◌, ap, sym, ◌∙◌}
 use mathlib.Core.List.{List, ◌++◌}
 use lib.ListN.{length, take, drop}
-use lib.Seq.{take-append_seam}
+use lib.Seq.{take-append_seam, length-take-le}
 use Rattle.algorithm.specs.Table.{Table, broken}
 use Rattle.algorithm.specs.Run.{pieces, piece_count, run}
 use Rattle.algorithm.proofs.Runs.{play-sound}
 use Rattle.image.specs.Image.{image}
 use Rattle.buffer.specs.Buffer.{Wrote}
 use Rattle.buffer.proofs.WroteUnique.{wrote-unique}
+use Rattle.buffer.proofs.WroteLaws.{wrote-within}
 use Rattle.report.specs.Lines.{played_lines}
-use Rattle.std.specs.Prelude.{Result}
+use Rattle.std.specs.Prelude.{Result, Ok, Err}
 use Rattle.rehearsal.specs.Programs.{longest, input_lines, Written, to_output, to_error, saved, bytes_of, answer_of, SaveAnswer, sent}
 use Rattle.rehearsal.proofs.PrintedTheorems.{image-opened, image-lines}
 
@@ -30,6 +31,31 @@ save-sent {input} {b} {b'} h = rw h.answer (go (saved input) h.wrote)
     go : (w : Written) → Wrote b b' 0 (bytes_of w) (length (bytes_of w)) → sent (answer_of w) b' ≡ w
     go (to_output l) w = ap to_output (begins l w)
     go (to_error l) w = ap to_error (begins l w)
+
+-- What main lends of the buffer is within it, and as long as the answer says.
+abbrev count_of : Result ℕ ℕ → ℕ
+count_of (Ok n) = n
+count_of (Err n) = n
+
+module _ (input b : List ℕ) (r : Result ℕ ℕ) (b' : List ℕ) (h : SaveAnswer input b r b') (n : ℕ) where
+  within : count_of r ≤ length b'
+  within = rw h.answer (go (saved input) h.wrote)
+    where
+      go : (w : Written) → Wrote b b' 0 (bytes_of w) (length (bytes_of w)) → count_of (answer_of w) ≤ length b'
+      go (to_output l) w = wrote-within b b' 0 l (length l) w
+      go (to_error l) w = wrote-within b b' 0 l (length l) w
+
+  pub image-within : r ≡ Ok n → n ≤ length b'
+  image-within e = rw e at within
+
+  pub image_lent : r ≡ Ok n → n ≡ length (take n b')
+  image_lent e = sym (length-take-le n b' (image-within e))
+
+  pub told-within : r ≡ Err n → n ≤ length b'
+  told-within e = rw e at within
+
+  pub told-lent : r ≡ Err n → n ≡ length (take n b')
+  told-lent e = sym (length-take-le n b' (told-within e))
 
 -- Of an input that begins with the image of a table, the image of the table that the bytes behind it leave is saved.
 pub image-saved : (t : Table) (p : List ℕ) → broken t ≡ false → length (image t ++ p) ≤ longest → saved (image t ++ p) ≡ to_output (image (run t p).table)

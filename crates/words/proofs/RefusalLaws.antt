@@ -106,6 +106,10 @@ quiet_each P test each (r ∷ rs) h =
     let (here, rest) = every-cons (λ r. test r.number) r rs (record { yes = h }) in
     (λ _. each r.number here, quiet_each P test each rs rest.yes)
 
+pub each_append : (P : Answer → Type 0) (xs ys : List Refusal) → EachHeld P xs → EachHeld P ys → EachHeld P (xs ++ ys)
+each_append P [] ys e f = f
+each_append P (r ∷ xs) ys (h, e) f = (h, each_append P xs ys e f)
+
 pub each_map : {P R : Answer → Type 0} (rs : List Refusal) → ((x : Answer) → P x → R x) → EachHeld P rs → EachHeld R rs
 each_map [] f e = tt
 each_map (r ∷ rs) f (h, e) = (λ p. f (answer r.number r.shows) (h p), each_map rs f e)

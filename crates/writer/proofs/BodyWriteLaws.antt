@@ -109,31 +109,38 @@ pub server-put : (s : Server) (w : ℕ) (a : Row) (o p q : Output) → a ≡ see
 unfolding bytes
 server-put s w a o p q e x y = rw (length-body w s) (grown (rw e at x) y)
 
--- ---- a body of the table in a slice
+-- ---- a body of a table
+
+marks-body : (t : Table) (e : ℕ) → e < 1 → body_of t e ≡ marks_body t.marks
+marks-body t zero l = refl
+marks-body t (suc e) l = absurd (omega arith)
+
+server-body : (t : Table) (e W : ℕ) → 1 ≤ e → W ≡ wide t → body_of t e ≡ server_body W (server t e)
+unfolding nth
+server-body t zero W l z = absurd (omega arith)
+server-body t (suc s) W l z = rw z (get_or-map (server_body (wide t)) t.servers s absent)
+
+pub marks-size : (t : Table) (e n : ℕ) → e < 1 → n ≡ length (trimmed t.marks) → 4 * n ≡ length (body_of t e)
+marks-size t e n l m = rw (marks-body t e l, length-bytes (trimmed t.marks)) (omega arith)
+
+pub server-size : (t : Table) (e W i n : ℕ) → 1 ≤ e → W ≡ wide t → i ≡ entry_bytes W → n ≡ length (server t e).log
+    → figure_bytes + i * n ≡ length (body_of t e)
+server-size t e W i n l z k m = rw (server-body t e W l z, length-body W (server t e), k, m)
 
 -- t is the table in the slice b, and u as well
 module _ (b : List ℕ) (t u : Table) (of : u ≡ table_in b) (is : table_in b ≡ t) (e : ℕ) where
   its-marks : e < 1 → body_of t e ≡ marks_body u.marks
-  its-marks l = first e l
-    where
-      first : (e : ℕ) → e < 1 → body_of t e ≡ marks_body u.marks
-      first zero l = rw (of, is)
-      first (suc e) l = absurd (omega arith)
+  its-marks l = rw (of, is) (marks-body t e l)
 
   its-server : (W : ℕ) → 1 ≤ e → W ≡ wide (table_in b) → body_of t e ≡ server_body W (server u e)
-  unfolding nth
-  its-server W l z = rw (z, of, is) (some e l)
-    where
-      some : (e : ℕ) → 1 ≤ e → body_of t e ≡ server_body (wide t) (server t e)
-      some zero l = absurd (omega arith)
-      some (suc s) l = get_or-map (server_body (wide t)) t.servers s absent
+  its-server W l z = rw (of, is) (server-body t e W l (z ∙ ap wide is))
 
-  pub marks-size : (n : ℕ) → e < 1 → n ≡ length (trimmed u.marks) → 4 * n ≡ length (body_of t e)
-  marks-size n l m = rw (its-marks l, length-bytes (trimmed u.marks)) (omega arith)
+  pub its-marks-size : (n : ℕ) → e < 1 → n ≡ length (trimmed u.marks) → 4 * n ≡ length (body_of t e)
+  its-marks-size n l m = marks-size t e n l (rw (of, is) at m)
 
-  pub server-size : (W i n : ℕ) → 1 ≤ e → W ≡ wide (table_in b) → i ≡ entry_bytes W → n ≡ length (server u e).log
+  pub its-server-size : (W i n : ℕ) → 1 ≤ e → W ≡ wide (table_in b) → i ≡ entry_bytes W → n ≡ length (server u e).log
       → figure_bytes + i * n ≡ length (body_of t e)
-  server-size W i n l z k m = rw (its-server W l z, length-body W (server u e), k, m)
+  its-server-size W i n l z k m = server-size t e W i n l (z ∙ ap wide is) k (rw (of, is) at m)
 
   module _ (o : Output) where
     pub server-room : (W : ℕ) → 1 ≤ e → W ≡ wide (table_in b) → o.at ≡ 0 → length (body_of t e) ≤ length o.buffer.now
