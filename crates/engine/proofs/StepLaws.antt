@@ -1,7 +1,7 @@
 -- Laws of one step: an action is read, then judged, then done. Assumes nothing.
 use Prim.Native.Nat.{ℕ}
 use mathlib.Core.Bool.{false}
-use mathlib.Core.Path.{◌≡◌, ap, sym, ◌∙◌}
+use mathlib.Core.Path.{refl, ◌≡◌, ap, sym, ◌∙◌}
 use mathlib.Core.List.{List, ◌++◌}
 use lib.Dec.{eqb}
 use borrow.Author.Tests.{ne_eqb}
@@ -9,7 +9,8 @@ use Rattle.words.specs.Lists.{every}
 use Rattle.words.specs.Refusal.{first, first_shown, Answer, given}
 use Rattle.words.proofs.Tests.{fails-false, false-fails}
 use Rattle.words.proofs.RefusalLaws.{none-hold, given-held, given-none}
-use Rattle.std.specs.Prelude.{Result, Ok, Err}
+use Rattle.std.specs.Prelude.{Result, Ok, Err, IfErr}
+use Rattle.std.specs.Result.{ForErr}
 use Rattle.algorithm.specs.declared.Refused.{Refused}
 use Rattle.algorithm.specs.Run.{answer_of, verdict_of, form_refusals, common_refusals, own_refusals, refusals, after, taken_shown, answered, outcome_by, step}
 use Rattle.algorithm.specs.Table.{Table, count}
@@ -30,10 +31,15 @@ use Rattle.engine.proofs.AskedLaws.{fits}
 pub step-answer : {b a b' : List ℕ} {r : Result ℕ Refused} → Stepped b a r b' → answer_of r ≡ answered (step (table_in b) a)
 step-answer {b} {a} s = ap answer_of s.reply ∙ (step-carried (table_in b) a).same
 
+-- what holds of each error that a result may be holds of the one that it is
+if-err : {T E : Type 0} {P : E → Type 0} (r : Result T E) → ForErr r P → IfErr r P
+if-err (Ok x) f = tt
+if-err (Err e) f = f e refl
+
 -- ---- what is asked, judged and done
 
 module _ (b : List ℕ) (x : Asked) (own : Result (Unit {0}) Refused) (t : Table) (of : t ≡ table_in b) (said : own ≡ verdict_of (given (own_refusals t (named x)))) where
-  judged : own ≡ verdict_of (given (own_refusals (table_in b) (named x)))
+  pub judged : own ≡ verdict_of (given (own_refusals (table_in b) (named x)))
   judged = said ∙ ap (λ (u : Table). verdict_of (given (own_refusals u (named x)))) of
 
   -- where nothing is refused, no refusal of its kind's own holds
@@ -45,6 +51,9 @@ module _ (b : List ℕ) (x : Asked) (own : Result (Unit {0}) Refused) (t : Table
       let (is, other) = refused-told (given (own_refusals (table_in b) (named x))) tt r (sym judged ∙ e) in
       let z : eqb (first (own_refusals (table_in b) (named x))) 0 ≡ false = ne_eqb _ 0 other in
       record { reply = rw (z, is); table = rw z h }
+
+  pub own-answered : Held b → IfErr own (λ r. Answered b x (Err r) b)
+  own-answered h = if-err own (own-refused h)
 
   pub own-taken : (k : ℕ) (u : Unit {0}) (b' : List ℕ) → own ≡ Ok u → (k ≡ (taken_shown (table_in b) (named x)).copied) × Holds b' (after (table_in b) (named x))
       → Answered b x (Ok k) b'
@@ -75,6 +84,9 @@ module _ (b a : List ℕ) (h : Ready b) where
         given_so (given forms) (given-held forms (own_refusals (table_in b) (action_of a)) other) in
         let z : eqb (first forms) 0 ≡ false = ne_eqb _ 0 other in
         record { reply = rw (refused, z, is); table = rw (refused, z) h.held; ready = h }
+
+    pub form-answered : IfErr f (λ r. Stepped b a (Err r) b)
+    form-answered = if-err f form-refused
 
     module _ (x : Asked) (asked : f ≡ Ok x) where
       passed : (first (form_refusals (count (table_in b)) a) ≡ 0) × (action_of a ≡ named x)

@@ -1,7 +1,12 @@
 // One action on a table that is whole, and a plan of them.
 #![tactic(auto)]
 
+ghost use Rattle.std.specs.Prelude.{◌≡◌, IfErr, Err};
+ghost use Rattle.words.specs.Refusal.{given};
+ghost use Rattle.algorithm.specs.Table.{count};
+ghost use Rattle.algorithm.specs.Run.{verdict_of, own_refusals};
 ghost use Rattle.table.specs.Layout.{table_in};
+ghost use Rattle.form.specs.Form.{named, form_of};
 ghost use Rattle.engine.specs.Engine.{Ready, Fitting, Answered, Stepped, Played, AllRefused};
 
 use crate::act::act;
@@ -17,16 +22,32 @@ pub mod act;
 pub mod judges;
 pub mod pieces;
 
-// What is asked is judged, and done if nothing speaks against it. Here and below a refusal is handed on by a `return` and not by a `?`, in which no
-// edit could put another answer in its place.
+// An action is read for the table in the slice. That a refusal is the reply is promised here of its value, so that what hands it on needs no law.
+fn read_asked(t: &[u8], a: &[u8]) -> Result<Asked, Refused>
+    requires { Ready t.now }
+    ensures read { result ≡ form_of (count (table_in t.now)) a.now }
+    ensures refused { IfErr result (λ r. Stepped t.now a.now (Err r) t.now) }
+{
+    read_action(Table::of(t).count(), a)
+}
+
+// What is asked is judged on the table in the slice; of a refusal the same is promised.
+fn judge_asked(t: &[u8], x: Asked) -> Result<(), Refused>
+    requires ready { Ready t.now }
+    requires fitting { Fitting (table_in t.now) x }
+    ensures judged { result ≡ verdict_of (given (own_refusals (table_in t.now) (named x))) }
+    ensures refused { IfErr result (λ r. Answered t.now x (Err r) t.now) }
+{
+    judge(&Table::of(t), x)
+}
+
+// What is asked is judged, and done if nothing speaks against it.
 fn answer(t: &mut [u8], x: Asked) -> Reply
     requires ready { Ready t.old }
     requires fitting { Fitting (table_in t.old) x }
     ensures { Answered t.old x result t.new }
 {
-    if let Err(own) = judge(&Table::of(t), x) {
-        return Err(own);
-    }
+    judge_asked(t, x)?;
     Ok(act(t, x))
 }
 
@@ -35,10 +56,7 @@ pub fn step(t: &mut [u8], a: &[u8]) -> Reply
     requires { Ready t.old }
     ensures { Stepped t.old a.now result t.new }
 {
-    let x = match read_action(Table::of(t).count(), a) {
-        Ok(x) => x,
-        Err(refused) => return Err(refused),
-    };
+    let x = read_asked(t, a)?;
     answer(t, x)
 }
 

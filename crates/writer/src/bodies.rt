@@ -3,6 +3,7 @@ ghost use Rattle.std.specs.Prelude.{◌≡◌, [], ◌∷◌, ◌*◌, ◌<◌, 
 ghost use Rattle.words.specs.Lists.{every};
 ghost use Rattle.words.specs.Words.{half, bytes};
 ghost use Rattle.algorithm.specs.Table.{server};
+ghost use Rattle.table.specs.Layout.{terms};
 ghost use Rattle.table.specs.Slice.{figured, Within};
 ghost use Rattle.buffer.specs.Buffer.{Room, Grew};
 ghost use Rattle.image.specs.Contents.{figure_bytes, entry_bytes};
@@ -85,14 +86,23 @@ fn put_entries(out: &mut Output<'_>, t: &Table<'_>, s: usize)
     }
 }
 
-// The log of server s. Entries that are terms alone stand in an image as they do in a table.
+// The terms of server s stand in an image as they do in a table.
+fn put_terms(out: &mut Output<'_>, t: &Table<'_>, s: usize)
+    requires within { Within t.now s }
+    requires room { Room (length (bytes (terms (server t.now s).log))) out.old }
+    ensures { Grew (length (bytes (terms (server t.now s).log))) out.old out.new (bytes (terms (server t.now s).log)) }
+{
+    out.put_word(t.terms(s));
+}
+
+// The log of server s: its terms alone, or each with its bake.
 fn put_log(out: &mut Output<'_>, t: &Table<'_>, s: usize, width: u8)
     requires within { Within t.now s }
     requires room { Room (entry_bytes width * length (server t.now s).log) out.old }
     ensures { Grew (entry_bytes width * length (server t.now s).log) out.old out.new (bytes (log_words width (server t.now s).log)) }
 {
     if width == 0 {
-        out.put_word(t.terms(s));
+        put_terms(out, t, s);
         return;
     }
     put_entries(out, t, s);
