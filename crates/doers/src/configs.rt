@@ -6,7 +6,7 @@ ghost use Rattle.algorithm.specs.Actions.{stepped_down, voted, elect_after, reco
 ghost use Rattle.table.specs.Layout.{table_in};
 ghost use Rattle.table.specs.Slice.{Holds, Held, Became, Within};
 
-use algorithm::{PRIMARY, SECONDARY, Term, Version};
+use algorithm::{PRIMARY, SECONDARY, SERVERS, Term, Version};
 use members::is_member;
 use table::Table;
 use table::rows::{put_config, put_role, put_term};
@@ -33,7 +33,8 @@ fn vote(t: &mut [u8], q: u16, term: Term)
     requires { Held t.old }
     ensures { Became t.old t.new (voted (table_in t.old) q term.0) }
 {
-    let count = Table::of(t).count() as usize;
+    // A table has no more servers than that; said here, it spares the loop a test for each.
+    let count = (Table::of(t).count() as usize).min(SERVERS as usize);
     // A range that includes its end would leave the loop at two places, and what stands then be proved at each.
     for s in 1..count + 1 {
         if is_member(s, q) {

@@ -1,15 +1,15 @@
 -- The lowest number that passes a test, the lowest member of a set, and the k lowest servers of one. Assumes nothing.
 use mathlib.Core.Path.{◌≡◌, refl, sym, ap, subst, ◌∙◌}
 use mathlib.Core.Bool.{Bool, true, false, cond, ◌&&◌}
-use Prim.Native.Nat.{ℕ, zero, suc, ◌+◌, ◌-◌, ◌*◌, ◌%◌, ◌^◌, ◌≤◌, ◌<◌, min}
+use Prim.Native.Nat.{ℕ, zero, suc, ◌+◌, ◌-◌, ◌*◌, ◌/◌, ◌%◌, ◌^◌, ◌≤◌, ◌<◌, min}
+use native.Mathlib.Nat.{pow-suc}
 use native.Mathlib.Decide.{dec_lt}
 use native.Mathlib.Omega.{arith}
 use lib.Dec.{T, ltb}
-use lib.Count.{ones}
+use lib.Count.{ones, count_trailing_zeros, under}
 use borrow.Author.Tests.{ltb-true, ltb-false, lt-ltb, le-ltb}
-use Rattle.std.proofs.lemmas.Nat.Bits.{bit_at-trailing_zeros}
-use Rattle.std.specs.Int.{Width, bit_at, trailing_zeros}
-use mir.Val.{bits}
+use Rattle.std.proofs.lemmas.Nat.Bits.{bit_at_lowest, bit_at-suc}
+use Rattle.std.specs.Int.{bit_at}
 use mir.Facts.{and_yes}
 use Rattle.members.specs.Members.{bit, member, Member, Subset, one, with_next, mask, passing, some_pass, lowest_from, lowest_up_to, lowest_in}
 use Rattle.members.specs.Rules.{is_low, lowest_servers}
@@ -129,17 +129,39 @@ module _ (n q : ℕ) (p : ℕ → Bool) where
 pub lowest-map : {q s : ℕ} {P R : ℕ → Type 0} → ((u : ℕ) → P u → R u) → ((u : ℕ) → R u → P u) → Lowest q P s → Lowest q R s
 lowest-map {s} f g l = record { member = l.member; holds = f s l.holds; least = λ u x y. l.least u x (g u y) }
 
--- a set that is not empty has it behind its trailing zeros
-pub trailing-lowest : (w : Width) (m : ℕ) → 0 < m → m < 2 ^ bits w → suc (trailing_zeros w m) ≡ lowest_up_to (bits w) (λ s. member s m)
-trailing-lowest w m some width =
-    let (within, set, below) = bit_at-trailing_zeros w m some width in
-    lowest-is (λ s. member s m) (bits w) (suc (trailing_zeros w m)) (omega arith) (omega arith) (is-equal set) (least below)
+-- the lowest 1 of the number m stands at t, below n
+record Trailing (n m t : ℕ) : Type 0 where
+  within : t < n
+  set : bit_at m t ≡ 1
+  below : (i : ℕ) → i < t → bit_at m i ≡ 0
+
+trailing : (n m : ℕ) → 0 < m → m < 2 ^ n → Trailing n m (count_trailing_zeros n m)
+unfolding count_trailing_zeros
+trailing zero m some width = absurd (omega arith)
+trailing (suc n) m some width = go (m % 2) refl (trailing n (m / 2))
   where
-    least : ((i : ℕ) → i < trailing_zeros w m → bit_at m i ≡ 0) → (t : ℕ) → 0 < t → Passes (member t m) → suc (trailing_zeros w m) ≤ t
-    least below zero from u = absurd (omega arith)
-    least below (suc j) from u = go (dec_lt j (trailing_zeros w m))
+    go : (d : ℕ) → m % 2 ≡ d → (0 < m / 2 → m / 2 < 2 ^ n → Trailing n (m / 2) (count_trailing_zeros n (m / 2)))
+        → Trailing (suc n) m (under d (count_trailing_zeros n (m / 2)))
+    go zero even rest =
+        let half = rest (omega arith) (omega (arith, pow-suc 2 n)) in
+        record { within = omega (arith, half.within); set = bit_at-suc m _ ∙ half.set; below = before half.below }
       where
-        go : Dec (j < trailing_zeros w m) → suc (trailing_zeros w m) ≤ suc j
+        before : {t : ℕ} → ((i : ℕ) → i < t → bit_at (m / 2) i ≡ 0) → (i : ℕ) → i < suc t → bit_at m i ≡ 0
+        before below zero l = bit_at_lowest m ∙ even
+        before below (suc i) l = bit_at-suc m i ∙ below i (omega arith)
+    go (suc d) odd rest = record { within = omega arith; set = omega (arith, bit_at_lowest m); below = λ i l. absurd (omega arith) }
+
+-- a set that is not empty has it behind its trailing zeros
+pub trailing-lowest : (n m : ℕ) → 0 < m → m < 2 ^ n → suc (count_trailing_zeros n m) ≡ lowest_up_to n (λ s. member s m)
+trailing-lowest n m some width =
+    let low = trailing n m some width in
+    lowest-is (λ s. member s m) n (suc (count_trailing_zeros n m)) (omega arith) (omega (arith, low.within)) (is-equal low.set) (least low.below)
+  where
+    least : {k : ℕ} → ((i : ℕ) → i < k → bit_at m i ≡ 0) → (t : ℕ) → 0 < t → Passes (member t m) → suc k ≤ t
+    least below zero from u = absurd (omega arith)
+    least {k} below (suc j) from u = go (dec_lt j k)
+      where
+        go : Dec (j < k) → suc k ≤ suc j
         go (yes l) = absurd (omega (arith, below j l, equal {a = bit_at m j} {b = 1} u))
         go (no l) = omega arith
 

@@ -13,4 +13,4 @@ loop-s-preserved c =
     elim c.if-is_member.branch [ then-is_member w ↦ search (rules, vote-more) | else-is_member w ↦ search (rules, vote-none) ]
 
 pub returns : goal.returns
-returns c = voted-all _ _ _ _ _ _ _ c.count-count.ensures.value c.of.ensures c.loop-s.invariant (omega arith)
+returns c = voted-all _ _ _ _ _ _ _ c.count.ensures.value c.of.ensures c.loop-s.invariant (omega (arith, c.count.ensures.few))
