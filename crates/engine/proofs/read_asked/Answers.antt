@@ -1,5 +1,4 @@
 -- `engine::read_asked` meets its contract. Assumes nothing.
-use borrow.Author.Rules.{rules}
 use Rattle.engine.proofs.StepLaws.{form-answered}
 use Rattle.engine.proofs.read_asked.Goals as goal
 
